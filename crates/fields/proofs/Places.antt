@@ -45,3 +45,8 @@ word-patch-same at w v old fits small =
 pub word-patch-other : (at w from : ℕ) (new old : List ℕ) → at + length new ≤ length old → (from + w ≤ at) ⊎ (at + length new ≤ from) → word w from (patch at new old) ≡ word w from old
 unfolding word
 word-patch-other at w from new old fits apart = ap leValue (part-patch-other at w from new old fits apart)
+
+-- two patches, the second right behind the first, are one
+pub patch-more : (at n : ℕ) (front back old : List ℕ) → at + n + length back ≤ length old → length front ≡ n → patch (at + n) back (patch at front old) ≡ patch at (front ++ back) old
+unfolding patch
+patch-more at n front back old fits long = same-lists _ _ (search (needs, places)) (λ k d h. grind (arith, places))

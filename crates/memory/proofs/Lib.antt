@@ -1,0 +1,4 @@
+pub mod ImageBlocks
+pub mod BareBlocks
+pub mod CheckedBlocks
+pub mod CorruptSearch
