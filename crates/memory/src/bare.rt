@@ -1,5 +1,5 @@
 // The bare image: runs of 510 bytes, each a block that is never corrupt.
-ghost use denote.Ref.{now};
+ghost use denote.Ref.{name, now};
 ghost use mathlib.Core.Path.{_≡_};
 ghost use Prim.Native.Nat.{_*_, _<_};
 ghost use lib.ListN.{length, getD, set};
@@ -45,9 +45,10 @@ fn replace_run(bytes: &mut [u8], block: u32, content: &[u8])
 }
 
 impl<'a> BareImage<'a> {
-    // The image that lies in these bytes.
+    // The image that lies in these bytes; they are lent to it, and come back as it leaves them.
     pub fn new(bytes: &'a mut [u8]) -> BareImage<'a>
-        ensures { λ r. ⌜ now (r .bytes) ≡ now (bytes .entry) ⌝ }
+        ensures bytes { λ r. ⌜ now (r .bytes) ≡ now (bytes .entry) ⌝ }
+        ensures lent { λ r. ⌜ name (r .bytes) ≡ name (bytes .entry) ⌝ }
     {
         BareImage { bytes }
     }
@@ -58,7 +59,7 @@ pub impl BlockMemory for BareImage<'_> as BareImageMemory {
 
     ghost whole = { λ m. bare-whole (now (m .bytes)) };
 
-    ghost rewrites = { λ before n content after. now (after .bytes) ≡ bareWritten (now (before .bytes)) n content };
+    ghost rewrites = { λ before n content after. (now (after .bytes) ≡ bareWritten (now (before .bytes)) n content) × (name (after .bytes) ≡ name (before .bytes)) };
 
     fn size(&self) -> u32
         ensures size { λ r. ⌜ r ≡ length (bareBlocks (now (now (self .entry) .bytes))) ⌝ }

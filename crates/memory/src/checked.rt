@@ -1,5 +1,5 @@
 // The checked image: runs of 512 bytes, a block's content and then its checksum, least significant byte first.
-ghost use denote.Ref.{now};
+ghost use denote.Ref.{name, now};
 ghost use mathlib.Core.Path.{_≡_};
 ghost use mathlib.Core.List.{_++_};
 ghost use Prim.Native.Nat.{_*_, _<_, _≤_};
@@ -79,9 +79,10 @@ fn replace_run(bytes: &mut [u8], block: u32, content: &[u8])
 }
 
 impl<'a> CheckedImage<'a> {
-    // The image that lies in these bytes.
+    // The image that lies in these bytes; they are lent to it, and come back as it leaves them.
     pub fn new(bytes: &'a mut [u8]) -> CheckedImage<'a>
-        ensures { λ r. ⌜ now (r .bytes) ≡ now (bytes .entry) ⌝ }
+        ensures bytes { λ r. ⌜ now (r .bytes) ≡ now (bytes .entry) ⌝ }
+        ensures lent { λ r. ⌜ name (r .bytes) ≡ name (bytes .entry) ⌝ }
     {
         CheckedImage { bytes }
     }
@@ -92,7 +93,7 @@ pub impl BlockMemory for CheckedImage<'_> as CheckedImageMemory {
 
     ghost whole = { λ m. checked-whole (now (m .bytes)) };
 
-    ghost rewrites = { λ before n content after. now (after .bytes) ≡ checkedWritten (now (before .bytes)) n content };
+    ghost rewrites = { λ before n content after. (now (after .bytes) ≡ checkedWritten (now (before .bytes)) n content) × (name (after .bytes) ≡ name (before .bytes)) };
 
     fn size(&self) -> u32
         ensures size { λ r. ⌜ r ≡ length (checkedBlocks (now (now (self .entry) .bytes))) ⌝ }

@@ -1,0 +1,5 @@
+pub mod Digests
+pub mod Figures
+pub mod Lines
+pub mod Numerals
+pub mod Pairs
