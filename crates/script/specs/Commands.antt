@@ -3,7 +3,7 @@ use mathlib.Core.Path.{_≡_}
 use mathlib.Core.Bool.{Bool, true, false, cond}
 use mathlib.Core.List.{List}
 use Prim.Native.Nat.{ℕ}
-use lib.Dec.{eqb, ltb}
+use lib.Dec.{eqb}
 use lib.ListN.{length}
 use Rattle.std.specs.Of.Vec.{vec-items}
 use Rattle.std.specs.declared.alloc.Global.{Global}
@@ -16,6 +16,8 @@ use Rattle.text.specs.Pairs.{hexRead}
 use Rattle.calendar.specs.declared.DateTime.{DateTime}
 use Rattle.calendar.specs.Calendar.{dated}
 use Rattle.script.specs.declared.command.Make.{Make}
+use Rattle.script.specs.declared.command.ImageCommand.{ImageCommand}
+use Rattle.script.specs.declared.command.ImageCommand.the-variants as asking
 use Rattle.script.specs.declared.command.Command.{Command}
 use Rattle.script.specs.declared.command.Command.the-variants as command
 use Rattle.script.specs.declared.command.Keyword.{Keyword}
@@ -24,24 +26,30 @@ use Rattle.script.specs.declared.complaint.Complaint.{Complaint}
 use Rattle.script.specs.declared.complaint.Complaint.the-variants as complaint
 use Rattle.script.specs.Lines.{andThen, wordSaid, numberSaid, byteSaid, endSaid, lastNumberSaid, makeSaid, keywordSaid}
 
--- A command with the values of its parts.
+-- Commands with the values of their parts: what is asked of an image, and any.
+pub data Asked : Type 0 where
+  poke : ℕ → List ℕ → Asked
+  write : ℕ → List ℕ → Asked
+  unsound : ℕ → Asked
+  block : ℕ → Asked
+  digest : Asked
+
 pub data Said : Type 0 where
   image : Make → ℕ → Said
-  poke : ℕ → List ℕ → Said
-  write : ℕ → List ℕ → Said
-  unsound : ℕ → Said
-  block : ℕ → Said
-  digest : Said
+  on : Asked → Said
   second : DateTime → Said
   moment : ℕ → Said
 
+abbrev pub askedOf : ImageCommand → Asked
+askedOf (asking.Poke offset bytes) = poke offset (vec-items bytes)
+askedOf (asking.Write n bytes) = write n (vec-items bytes)
+askedOf (asking.Unsound below) = unsound below
+askedOf (asking.Block n) = block n
+askedOf asking.Digest = digest
+
 abbrev pub saidOf : Command → Said
 saidOf (command.Image make bytes) = image make bytes
-saidOf (command.Poke offset bytes) = poke offset (vec-items bytes)
-saidOf (command.Write n bytes) = write n (vec-items bytes)
-saidOf (command.Unsound below) = unsound below
-saidOf (command.Block n) = block n
-saidOf command.Digest = digest
+saidOf (command.On c) = on (askedOf c)
 saidOf (command.Second date) = second date
 saidOf (command.Moment s) = moment s
 
@@ -80,18 +88,15 @@ bytesSaid line = hexed (hexRead line)
 abbrev pub someBytesSaid : List ℕ → Result (List ℕ) Complaint
 someBytesSaid line = andThen (bytesSaid line) (λ bytes. cond (eqb (length bytes) 0) (Err complaint.NoBytes) (Ok bytes))
 
-abbrev pub fewBytesSaid : List ℕ → Result (List ℕ) Complaint
-fewBytesSaid line = andThen (bytesSaid line) (λ bytes. cond (ltb 510 (length bytes)) (Err complaint.TooManyBytes) (Ok bytes))
-
 abbrev pub imageSaid : List ℕ → Result Said Complaint
 imageSaid line =
     andThen (wordSaid line) (λ w. andThen (makeSaid (w .0)) (λ make. andThen (lastNumberSaid 16777216 (w .1)) (λ bytes. Ok (image make bytes))))
 
 abbrev pub pokeSaid : List ℕ → Result Said Complaint
-pokeSaid line = andThen (numberSaid 4294967295 line) (λ n. andThen (someBytesSaid (n .1)) (λ bytes. Ok (poke (n .0) bytes)))
+pokeSaid line = andThen (numberSaid 4294967295 line) (λ n. andThen (someBytesSaid (n .1)) (λ bytes. Ok (on (poke (n .0) bytes))))
 
 abbrev pub writeSaid : List ℕ → Result Said Complaint
-writeSaid line = andThen (numberSaid 4294967295 line) (λ n. andThen (fewBytesSaid (n .1)) (λ bytes. Ok (write (n .0) bytes)))
+writeSaid line = andThen (numberSaid 4294967295 line) (λ n. andThen (bytesSaid (n .1)) (λ bytes. Ok (on (write (n .0) bytes))))
 
 abbrev pub secondSaid : List ℕ → Result Said Complaint
 secondSaid line =
@@ -103,9 +108,9 @@ abbrev pub keyworded : Keyword → List ℕ → Result Said Complaint
 keyworded keyword.Image line = imageSaid line
 keyworded keyword.Poke line = pokeSaid line
 keyworded keyword.Write line = writeSaid line
-keyworded keyword.Unsound line = andThen (lastNumberSaid 4294967295 line) (λ n. Ok (unsound n))
-keyworded keyword.Block line = andThen (lastNumberSaid 4294967295 line) (λ n. Ok (block n))
-keyworded keyword.Digest line = andThen (endSaid line) (λ _. Ok digest)
+keyworded keyword.Unsound line = andThen (lastNumberSaid 4294967295 line) (λ n. Ok (on (unsound n)))
+keyworded keyword.Block line = andThen (lastNumberSaid 4294967295 line) (λ n. Ok (on (block n)))
+keyworded keyword.Digest line = andThen (endSaid line) (λ _. Ok (on digest))
 keyworded keyword.Second line = secondSaid line
 keyworded keyword.Moment line = andThen (lastNumberSaid 4294967295 line) (λ n. Ok (moment n))
 

@@ -1,6 +1,7 @@
 // What a command is answered, and the line that says so.
 ghost use mathlib.Core.Path.{_≡_};
-ghost use mathlib.Core.List.{[], _∷_, _++_};
+ghost use mathlib.Core.List.{List, [], _∷_, _++_};
+ghost use Prim.Native.Nat.{ℕ};
 ghost use Rattle.std.specs.Of.Vec.{vec-items};
 ghost use Rattle.std.specs.Vec.{made};
 ghost use Rattle.script.specs.Answers.{numbered, marked, dateAfter, verdictAfter, contentAfter, lowestAfter, answerAfter};
@@ -124,8 +125,10 @@ pub fn write_answer(out: &mut Vec<u8>, answer: &Answer) -> Result<(), AllocError
     Ok(())
 }
 
-// Appends the line that says why a line of the script was not carried out.
-pub fn write_complaint(out: &mut Vec<u8>, complaint: Complaint) -> Result<(), AllocError> {
+// Appends the line that says why a line of the script was not carried out. Its words are free.
+pub fn write_complaint(out: &mut Vec<u8>, complaint: Complaint) -> Result<(), AllocError>
+    ensures { λ r. ⌜ made r (λ _. (words : List ℕ) × (vec-items (now (out .exit)) ≡ vec-items (now (out .entry)) ++ 63 ∷ 32 ∷ [] ++ words ++ 10 ∷ [])) ⌝ }
+{
     out.extend_from_slice(b"? ")?;
     out.extend_from_slice(complaint.words().as_bytes())?;
     out.push(b'\n')?;

@@ -21,10 +21,9 @@ pub enum Keyword {
     Moment,
 }
 
+// What is asked of an image.
 #[derive(Drop)]
-pub enum Command {
-    // A new image of so many bytes.
-    Image(Make, u32),
+pub enum ImageCommand {
     // Raw bytes of the image from an offset on.
     Poke(u32, Vec<u8>),
     // The first bytes of a block's content.
@@ -34,6 +33,14 @@ pub enum Command {
     // The content of a block.
     Block(u32),
     Digest,
+}
+
+#[derive(Drop)]
+pub enum Command {
+    // A new image of so many bytes.
+    Image(Make, u32),
+    // What needs an image.
+    On(ImageCommand),
     // The second of a date-time, and the date-time of a second.
     Second(DateTime),
     Moment(u32),

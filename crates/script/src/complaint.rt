@@ -54,7 +54,7 @@ pub impl From<AllocError> for Complaint as ComplaintFromAlloc {
 
 impl Complaint {
     // What is printed of it.
-    pub fn words(self) -> &'static str {
+    pub(crate) fn words(self) -> &'static str {
         match self {
             Complaint::UnknownCommand => "no such command",
             Complaint::UnknownMake => "an image is bare or checked",

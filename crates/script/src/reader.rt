@@ -4,8 +4,9 @@ ghost use mathlib.Core.List.{List};
 ghost use Prim.Native.Nat.{ℕ};
 ghost use Rattle.std.specs.shelf.Text.{sameBytes};
 ghost use Rattle.script.specs.Lines.{makeSaid, keywordSaid, byteSaid, rested};
-ghost use Rattle.script.specs.Commands.{Meets, BytesMeet, bytesSaid, someBytesSaid, fewBytesSaid, imageSaid, pokeSaid, writeSaid, secondSaid, commandSaid};
+ghost use Rattle.script.specs.Commands.{Meets, BytesMeet, bytesSaid, someBytesSaid, imageSaid, pokeSaid, writeSaid, secondSaid, commandSaid};
 use crate::command::Command;
+use crate::command::ImageCommand;
 use crate::command::Keyword;
 use crate::command::Make;
 use crate::complaint::Complaint;
@@ -77,16 +78,6 @@ fn some_bytes(heap: Global, line: &[u8]) -> Result<Vec<u8>, Complaint>
     Ok(bytes)
 }
 
-fn few_bytes(heap: Global, line: &[u8]) -> Result<Vec<u8>, Complaint>
-    ensures { λ r. ⌜ BytesMeet r (fewBytesSaid (now (line .entry))) ⌝ }
-{
-    let bytes = read_bytes(heap, line)?;
-    if bytes.len() > 510 {
-        return Err(Complaint::TooManyBytes);
-    }
-    Ok(bytes)
-}
-
 fn read_image(line: &[u8]) -> Result<Command, Complaint>
     ensures { λ r. ⌜ Meets r (imageSaid (now (line .entry))) ⌝ }
 {
@@ -101,15 +92,15 @@ fn read_poke(heap: Global, line: &[u8]) -> Result<Command, Complaint>
 {
     let (offset, rest) = number(line, u32::MAX)?;
     let bytes = some_bytes(heap, rest)?;
-    Ok(Command::Poke(offset, bytes))
+    Ok(Command::On(ImageCommand::Poke(offset, bytes)))
 }
 
 fn read_write(heap: Global, line: &[u8]) -> Result<Command, Complaint>
     ensures { λ r. ⌜ Meets r (writeSaid (now (line .entry))) ⌝ }
 {
     let (block, rest) = number(line, u32::MAX)?;
-    let bytes = few_bytes(heap, rest)?;
-    Ok(Command::Write(block, bytes))
+    let bytes = read_bytes(heap, rest)?;
+    Ok(Command::On(ImageCommand::Write(block, bytes)))
 }
 
 fn byte(line: &[u8]) -> Result<(u8, &[u8]), Complaint>
@@ -148,13 +139,22 @@ pub fn read_command(heap: Global, line: &[u8]) -> Result<Command, Complaint>
         Keyword::Image => read_image(rest),
         Keyword::Poke => read_poke(heap, rest),
         Keyword::Write => read_write(heap, rest),
-        Keyword::Unsound => Ok(Command::Unsound(last_number(rest, u32::MAX)?)),
-        Keyword::Block => Ok(Command::Block(last_number(rest, u32::MAX)?)),
+        Keyword::Unsound => {
+            let below = last_number(rest, u32::MAX)?;
+            Ok(Command::On(ImageCommand::Unsound(below)))
+        }
+        Keyword::Block => {
+            let n = last_number(rest, u32::MAX)?;
+            Ok(Command::On(ImageCommand::Block(n)))
+        }
         Keyword::Digest => {
             end(rest)?;
-            Ok(Command::Digest)
+            Ok(Command::On(ImageCommand::Digest))
         }
         Keyword::Second => read_second(rest),
-        Keyword::Moment => Ok(Command::Moment(last_number(rest, u32::MAX)?)),
+        Keyword::Moment => {
+            let second = last_number(rest, u32::MAX)?;
+            Ok(Command::Moment(second))
+        }
     }
 }
