@@ -17,13 +17,15 @@ padded-push width ds d =
     let fewer : width - length (ds ++ d ∷ []) ≡ width - 1 - length ds = omega (arith, length-push ds d) in
     rw fewer (sym (append-assoc (replicate (width - 1 - length ds) 0) ds (d ∷ [])))
 
+abbrev zeros : ℕ → List ℕ
+zeros n = replicate n 0
+
+zeros-push : (a b c : ℕ) → a ≡ b + 1 → c ≡ b → zeros a ++ [] ≡ (zeros c ++ []) ++ 0 ∷ []
+zeros-push a b c more same =
+    append-nil (zeros a) ∙ ap zeros more ∙ sym (replicate-more b 0) ∙ ap (λ (n : ℕ). zeros n ++ 0 ∷ []) (sym same) ∙ ap (λ (l : List ℕ). l ++ 0 ∷ []) (sym (append-nil (zeros c)))
+
 padded-none : (width : ℕ) → 0 < width → padded width [] ≡ padded (width - 1) [] ++ 0 ∷ []
-padded-none width some =
-    let one : width - 1 + 1 ≡ width = omega arith in
-    let less : width - 1 - 0 ≡ width - 1 = omega arith in
-    let all : width - 0 ≡ width = omega arith in
-    let more : replicate (width - 1) 0 ++ 0 ∷ [] ≡ replicate width 0 = replicate-more (width - 1) 0 ∙ ap (λ (n : ℕ). replicate n 0) one in
-    rw (less, all) (append-nil (replicate width 0) ∙ sym more ∙ ap (λ (l : List ℕ). l ++ 0 ∷ []) (sym (append-nil (replicate (width - 1) 0))))
+padded-none width some = zeros-push (width - 0) (width - 1) (width - 1 - 0) (omega arith) (omega arith)
 
 -- the last digit is what the base leaves
 abbrev Step : ℕ → ℕ → ℕ → Type 0
