@@ -1,9 +1,9 @@
 // The bench: a script of commands goes in on standard input, a transcript of what took place comes out on standard output.
-use session::Session;
+use session::session::Session;
 use std::alloc::Global;
 use std::io;
-use std::io::BufReader;
 use std::io::BufRead;
+use std::io::BufReader;
 use std::io::Read;
 use std::io::Write;
 
@@ -15,8 +15,12 @@ fn without_newline(line: &[u8]) -> &[u8] {
     }
 }
 
-fn run(heap: Global, mut input: impl BufRead + Drop, mut output: impl Write + Drop) -> io::Result<()> {
-    let mut session = Session::new();
+fn run(
+    heap: Global,
+    mut input: impl BufRead + Drop,
+    mut output: impl Write + Drop,
+) -> io::Result<()> {
+    let mut session = Session::Empty;
     let mut line = Vec::new(heap);
     let mut answers = Vec::new(heap);
     for _ in 0..u64::MAX {

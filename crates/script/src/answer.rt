@@ -32,7 +32,12 @@ pub enum Answer {
 }
 
 // Appends text, a number and text.
-fn write_numbered(out: &mut Vec<u8>, front: &[u8], number: u32, back: &[u8]) -> Result<(), AllocError>
+fn write_numbered(
+    out: &mut Vec<u8>,
+    front: &[u8],
+    number: u32,
+    back: &[u8],
+) -> Result<(), AllocError>
     ensures { λ r. ⌜ made r (λ _. vec-items (now (out .exit)) ≡ numbered (vec-items (now (out .entry))) (now (front .entry)) number (now (back .entry))) ⌝ }
 {
     out.extend_from_slice(front)?;
@@ -62,7 +67,11 @@ fn write_date(out: &mut Vec<u8>, date: DateTime, weekday: u8) -> Result<(), Allo
     write_number(out, u32::from(weekday))
 }
 
-fn write_verdict(out: &mut Vec<u8>, n: u32, verdict: &Result<(), MemoryFault>) -> Result<(), AllocError>
+fn write_verdict(
+    out: &mut Vec<u8>,
+    n: u32,
+    verdict: &Result<(), MemoryFault>,
+) -> Result<(), AllocError>
     ensures { λ r. ⌜ made r (λ _. vec-items (now (out .exit)) ≡ verdictAfter (vec-items (now (out .entry))) n (now (verdict .entry))) ⌝ }
 {
     match verdict {
@@ -71,7 +80,11 @@ fn write_verdict(out: &mut Vec<u8>, n: u32, verdict: &Result<(), MemoryFault>) -
     }
 }
 
-fn write_content(out: &mut Vec<u8>, n: u32, read: &Result<[u8; 510], MemoryFault>) -> Result<(), AllocError>
+fn write_content(
+    out: &mut Vec<u8>,
+    n: u32,
+    read: &Result<[u8; 510], MemoryFault>,
+) -> Result<(), AllocError>
     ensures { λ r. ⌜ made r (λ _. vec-items (now (out .exit)) ≡ contentAfter (vec-items (now (out .entry))) n (now (read .entry))) ⌝ }
 {
     match read {

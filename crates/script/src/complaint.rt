@@ -3,9 +3,9 @@ ghost use mathlib.Core.Path.{_≡_};
 ghost use Rattle.script.specs.declared.complaint.Complaint.the-variants.{Number, Hex, NoMemory};
 use std::alloc::AllocError;
 use text::hex::HexFault;
-use text::number::NumberFault;
 use text::hex::HexFaultDebug;
 use text::hex::HexFaultPartialEq;
+use text::number::NumberFault;
 use text::number::NumberFaultDebug;
 use text::number::NumberFaultPartialEq;
 
@@ -64,12 +64,13 @@ impl Complaint {
             Complaint::Number(NumberFault::TooLarge) => "a number is too large",
             Complaint::Hex(HexFault::NotHex) => "a byte is not written in hex digits",
             Complaint::Hex(HexFault::OddDigits) => "the number of hex digits is odd",
-            Complaint::Hex(HexFault::NoMemory) => "there is not enough memory",
             Complaint::NoBytes => "at least one byte is wanted",
             Complaint::TooManyBytes => "a block has 510 bytes",
             Complaint::NoImage => "there is no image yet",
             Complaint::OutsideImage => "the bytes do not lie inside the image",
-            Complaint::NoMemory => "there is not enough memory",
+            Complaint::Hex(HexFault::NoMemory) | Complaint::NoMemory => {
+                "there is not enough memory"
+            }
         }
     }
 }

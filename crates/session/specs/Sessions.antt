@@ -26,6 +26,7 @@ use Rattle.text.specs.declared.number.NumberFault.the-variants.{TooLarge}
 use Rattle.script.specs.Commands.{Asked, Said, poke, write, unsound, block, digest, image, on, second, moment, shortOfMemory}
 use Rattle.session.specs.declared.held.HeldImage.{HeldImage}
 use Rattle.session.specs.declared.session.Session.{Session}
+use Rattle.session.specs.declared.session.Session.the-variants.{Empty, Cold}
 use Rattle.session.specs.Images.{sizeOf, blocksOf, writtenTo, contentFrom, contentRead}
 use Rattle.session.specs.Asking.{answerOn, bytesAfter}
 
@@ -37,7 +38,8 @@ abbrev pub imageOf : HeldImage → Make × List ℕ
 imageOf held = (held .make, vec-items (held .bytes))
 
 abbrev pub stateOf : Session → State
-stateOf s = mapped imageOf (s .image)
+stateOf Empty = None
+stateOf (Cold held) = Some (imageOf held)
 
 abbrev pub answerIn : State → Asked → Result Answer Complaint
 answerIn None asked = Err NoImage

@@ -4,7 +4,7 @@ ghost use Rattle.std.specs.Of.Vec.{vec-len};
 use script::command::Make;
 
 #[derive(Drop)]
-pub(crate) struct HeldImage {
+pub struct HeldImage {
     pub(crate) make: Make,
     pub(crate) bytes: Vec<u8>,
     ghost few: { vec-len bytes ≤ 16777216 },

@@ -105,7 +105,11 @@ fn overwrite(make: Make, bytes: &mut [u8], offset: u32, given: &[u8]) -> Result<
 }
 
 // Answers what is asked of the image.
-pub(crate) fn answer(make: Make, bytes: &mut [u8], command: &ImageCommand) -> Result<Answer, Complaint>
+pub(crate) fn answer(
+    make: Make,
+    bytes: &mut [u8],
+    command: &ImageCommand,
+) -> Result<Answer, Complaint>
     requires { ⌜ length (now bytes) ≤ 16777216 ⌝ }
     ensures answer { λ r. ⌜ r ≡ answerOn make (now (bytes .entry)) (askedOf (now (command .entry))) ⌝ }
     ensures after { λ _. ⌜ now (bytes .exit) ≡ bytesAfter make (now (bytes .entry)) (askedOf (now (command .entry))) ⌝ }
@@ -113,9 +117,7 @@ pub(crate) fn answer(make: Make, bytes: &mut [u8], command: &ImageCommand) -> Re
     match command {
         ImageCommand::Poke(offset, given) => overwrite(make, bytes, *offset, given.as_slice()),
         ImageCommand::Write(n, given) => write_block(make, bytes, *n, given.as_slice()),
-        ImageCommand::Unsound(below) => {
-            Ok(Answer::Unsound(lowest_corrupt(make, bytes, *below)))
-        }
+        ImageCommand::Unsound(below) => { Ok(Answer::Unsound(lowest_corrupt(make, bytes, *below))) }
         ImageCommand::Block(n) => Ok(Answer::Block(*n, read_block(make, bytes, *n))),
         ImageCommand::Digest => Ok(Answer::Digest(digest(bytes))),
     }

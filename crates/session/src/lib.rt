@@ -1,8 +1,6 @@
 // An image and what the commands of a script do with it.
-mod held;
+pub mod held;
 mod image;
 mod line;
 mod run;
-mod session;
-
-pub use session::Session;
+pub mod session;

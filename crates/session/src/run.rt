@@ -3,7 +3,6 @@ ghost use mathlib.Core.Path.{_≡_};
 ghost use lib.ListN.{replicate};
 ghost use Rattle.std.specs.Of.Vec.{vec-items, vec-len};
 ghost use Rattle.std.specs.Vec.{made};
-ghost use Rattle.std.specs.declared.option.Option.the-variants.{None};
 ghost use Rattle.script.specs.Commands.{askedOf, saidOf, image, on};
 ghost use Rattle.session.specs.Images.{sizeOf};
 ghost use Rattle.session.specs.Asking.{answerOn, bytesAfter};
@@ -71,27 +70,20 @@ fn moment(second: u32) -> Option<(DateTime, u8)>
 }
 
 impl Session {
-    // A session without an image.
-    pub fn new() -> Session
-        ensures { λ r. ⌜ stateOf r ≡ None ⌝ }
-    {
-        Session { image: None }
-    }
-
     fn make_image(&mut self, heap: Global, make: Make, count: u32) -> Result<Answer, Complaint>
         ensures { λ r. ⌜ Performed (stateOf (now (self .entry))) (image make count) r (stateOf (now (self .exit))) ⌝ }
     {
         let (held, size) = new_image(heap, make, count)?;
-        self.image = Some(held);
+        *self = Session::Cold(held);
         Ok(Answer::Image(size))
     }
 
     fn ask(&mut self, command: &ImageCommand) -> Result<Answer, Complaint>
         ensures { λ r. ⌜ Performed (stateOf (now (self .entry))) (on (askedOf (now (command .entry)))) r (stateOf (now (self .exit))) ⌝ }
     {
-        match &mut self.image {
-            None => Err(Complaint::NoImage),
-            Some(held) => held.answer(command),
+        match self {
+            Session::Empty => Err(Complaint::NoImage),
+            Session::Cold(held) => held.answer(command),
         }
     }
 

@@ -1,7 +1,8 @@
-// A session: at most one image.
+// A session has no image yet, or one.
 use crate::held::HeldImage;
 
 #[derive(Drop)]
-pub struct Session {
-    pub(crate) image: Option<HeldImage>,
+pub enum Session {
+    Empty,
+    Cold(HeldImage),
 }
