@@ -31,9 +31,9 @@ mod tests {
     use calendar::second_and_back;
     use memory::checked::CheckedImage;
     use memory::checked::CheckedImageMemory;
+    use memory::fault::MemoryFault;
     use memory::fault::MemoryFaultDebug;
     use memory::fault::MemoryFaultPartialEq;
-    use memory::fault::MemoryFault;
     use memory::memory::BlockMemory;
     use std::test::*;
 

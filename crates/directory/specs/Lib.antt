@@ -1,0 +1,4 @@
+pub mod Geometry
+pub mod Tables
+pub mod Uses
+pub mod Lawful

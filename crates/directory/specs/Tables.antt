@@ -1,0 +1,99 @@
+-- The directory, and the table that a number names.
+use mathlib.Core.Bool.{cond}
+use mathlib.Core.List.{List, [], _∷_}
+use Prim.Native.Nat.{ℕ, _+_, _-_, _≤_}
+use lib.Dec.{eqb, ltb}
+use Rattle.std.specs.declared.option.Option.{Option}
+use Rattle.std.specs.declared.option.Option.the-variants.{Some, None}
+use Rattle.std.specs.declared.result.Result.{Result}
+use Rattle.std.specs.declared.result.Result.the-variants.{Ok, Err}
+use Rattle.numbers.specs.declared.log.LogName.the-variants.{History, SelfReads, LoadProfile}
+use Rattle.refusals.specs.declared.fault.ServiceFault.{ServiceFault}
+use Rattle.refusals.specs.declared.fault.ServiceFault.the-variants.{UnknownTable}
+use Rattle.pending.specs.declared.table.PendingTable.the-variants.{Calendar, Outputs, Override}
+use Rattle.directory.specs.declared.entry.View.the-variants.{PendingStatus, Response, Registers, Clock}
+use Rattle.directory.specs.declared.entry.Source.{Source}
+use Rattle.directory.specs.declared.entry.Source.the-variants.{Computed, Initiate, Utility, Staged, Pending, Log}
+use Rattle.directory.specs.declared.entry.TableEntry.{TableEntry}
+use Rattle.logs.specs.Tables.{tableLength}
+use Rattle.directory.specs.Geometry.{currentBlock, pendingBlock, logPlace}
+
+abbrev pub entry : ℕ → ℕ → Source → TableEntry
+entry number length source = record { number = number; length = length; source = source }
+
+abbrev pub directory : List TableEntry
+directory =
+    entry 4 31 (Computed PendingStatus)
+    ∷ (entry 6 40 Utility
+    ∷ (entry 7 9 Initiate
+    ∷ (entry 8 4 (Computed Response)
+    ∷ (entry 23 20 (Computed Registers)
+    ∷ (entry 26 634 (Log SelfReads)
+    ∷ (entry 52 6 (Computed Clock)
+    ∷ (entry 54 120 (Staged Calendar)
+    ∷ (entry 64 7402 (Log LoadProfile)
+    ∷ (entry 74 1030 (Log History)
+    ∷ (entry 2053 60 (Staged Outputs)
+    ∷ (entry 2095 16 (Staged Override)
+    ∷ [])))))))))))
+
+-- The block at whose start a table is, if it is in one.
+abbrev pub blockOf : Source → Option ℕ
+blockOf (Computed view) = None
+blockOf Initiate = None
+blockOf Utility = Some 1
+blockOf (Staged table) = Some (currentBlock table)
+blockOf (Pending table) = Some (pendingBlock table)
+blockOf (Log log) = None
+
+-- The bytes that a source has. A block has 510, of which a pending content takes six more than the one in force.
+abbrev pub room : Source → ℕ
+room (Computed PendingStatus) = 31
+room (Computed Response) = 4
+room (Computed Registers) = 20
+room (Computed Clock) = 6
+room Initiate = 9
+room Utility = 510
+room (Staged table) = 504
+room (Pending table) = 510
+room (Log log) = tableLength (logPlace log)
+
+abbrev pub Inside : TableEntry → Type 0
+Inside t = t .length ≤ room (t .source)
+
+abbrev pub lookup : List TableEntry → ℕ → Option TableEntry
+lookup [] n = None
+lookup (t ∷ ts) n = cond (eqb (t .number) n) (Some t) (lookup ts n)
+
+-- A staged table has a pending twin under a number of its own, six bytes longer.
+abbrev pub twinFrom : ℕ → ℕ → Source → Option TableEntry
+twinFrom n length (Computed view) = None
+twinFrom n length Initiate = None
+twinFrom n length Utility = None
+twinFrom n length (Staged table) = Some (entry n (length + 6) (Pending table))
+twinFrom n length (Pending table) = None
+twinFrom n length (Log log) = None
+
+abbrev pub twinOf : ℕ → TableEntry → Option TableEntry
+twinOf n t = twinFrom n (t .length) (t .source)
+
+abbrev pub twinIf : ℕ → Option TableEntry → Option TableEntry
+twinIf n None = None
+twinIf n (Some t) = twinOf n t
+
+-- The table of a number: below 4096 a listed one, from there on the twin of a listed one.
+abbrev pub numberedBy : (ℕ → Option TableEntry) → ℕ → Option TableEntry
+numberedBy look n = cond (ltb n 4096) (look n) (twinIf n (look (n - 4096)))
+
+unfoldable pub listed : ℕ → Option TableEntry
+listed n = lookup directory n
+
+abbrev pub numbered : ℕ → Option TableEntry
+numbered n = numberedBy listed n
+
+abbrev pub orUnknown : ℕ → Option TableEntry → Result TableEntry ServiceFault
+orUnknown n None = Err (UnknownTable n)
+orUnknown n (Some t) = Ok t
+
+abbrev pub findTable : ℕ → Result TableEntry ServiceFault
+findTable n = orUnknown n (numbered n)

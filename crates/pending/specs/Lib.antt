@@ -1,0 +1,4 @@
+pub mod Triggers
+pub mod Rows
+pub mod Tables
+pub mod Laws

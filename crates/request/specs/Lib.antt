@@ -1,0 +1,4 @@
+pub mod Asks
+pub mod Parts
+pub mod Answers
+pub mod Sent
