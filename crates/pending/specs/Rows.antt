@@ -27,6 +27,12 @@ abbrev pub isDue : Row → ℕ → Bool
 isDue Empty clock = false
 isDue (Waiting plan due) clock = isReached due clock
 
+-- The same in words: something waits, for a second that the clock has reached.
+abbrev pub HasComeDue : Row → ℕ → Type 0
+HasComeDue Empty clock = ⊥
+HasComeDue (Waiting plan (At second)) clock = second ≤ clock
+HasComeDue (Waiting plan ByCommand) clock = ⊥
+
 -- The six trigger bytes of a row.
 abbrev pub rowPlanBytes : Row → List ℕ
 rowPlanBytes Empty = 0 ∷ 0 ∷ 0 ∷ 0 ∷ 0 ∷ 0 ∷ []

@@ -1,7 +1,8 @@
 // The row in which a staged table waits.
 ghost use mathlib.Core.Path.{_≡_};
+ghost use Rattle.std.specs.Orderings.{When};
 ghost use Rattle.pending.specs.declared.row.Row.the-variants.{Empty, Waiting};
-ghost use Rattle.pending.specs.Rows.{isWaiting, isDue, rowPlanBytes};
+ghost use Rattle.pending.specs.Rows.{isWaiting, isDue, HasComeDue, rowPlanBytes};
 ghost use Rattle.pending.specs.Laws.{RowLaws};
 use crate::plan::Plan;
 use crate::plan::PlanPartialEq;
@@ -47,7 +48,8 @@ impl Row {
 
     // Whether what waits is to take force at this clock.
     pub fn is_due(&self, clock: u32) -> bool
-        ensures { λ r. ⌜ r ≡ isDue (now (self .entry)) clock ⌝ }
+        ensures test { λ r. ⌜ r ≡ isDue (now (self .entry)) clock ⌝ }
+        ensures meaning { λ r. ⌜ When r (HasComeDue (now (self .entry)) clock) (HasComeDue (now (self .entry)) clock → ⊥) ⌝ }
     {
         match *self {
             Row::Waiting {

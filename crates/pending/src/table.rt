@@ -1,5 +1,6 @@
 // The tables that can be staged.
 ghost use mathlib.Core.Path.{_≡_};
+ghost use lib.ListN.{getD};
 ghost use Rattle.std.specs.declared.option.Option.the-variants.{Some};
 ghost use Rattle.pending.specs.Tables.{tableNumber, tableIndex, tableOf};
 
@@ -32,7 +33,8 @@ impl PendingTable {
 
     // Its place in directory order, from 0.
     pub fn index(self) -> usize
-        ensures { λ r. ⌜ r ≡ tableIndex self ⌝ }
+        ensures value { λ r. ⌜ r ≡ tableIndex self ⌝ }
+        ensures listed { λ r. do ⌜ getD (← ⟦PendingTable::ALL⟧ .entry) r self ≡ self ⌝ }
     {
         match self {
             PendingTable::Calendar => 0,
