@@ -1,0 +1,1 @@
+// The plain meter: definitions only, which the contracts of the calls cite.
