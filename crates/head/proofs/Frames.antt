@@ -18,11 +18,12 @@ use Rattle.records.specs.declared.registers.Registers.{Registers}
 use Rattle.records.specs.declared.status.Status.{Status}
 use Rattle.head.specs.Layout.{rowPlace, logPlace, logSizes}
 use Rattle.records.specs.Statuses.{statusByte}
-use Rattle.head.specs.Pieces.{rowBytes, logBytes, activationBytes, registersBytes}
+use Rattle.records.specs.Layouts.{registerBytes}
+use Rattle.head.specs.Pieces.{rowBytes, logBytes, activationBytes}
 use Rattle.head.specs.Heads.{encodeHead, withRow, withLog, withActivation, withRegisters, withStatus}
 use Rattle.head.specs.Order.{LogFormed, LogsFormed, RowsFormed, WellFormed}
 use Rattle.head.specs.Laws.{Frames}
-use Rattle.head.proofs.Writing.{length-rowBytes, length-logBytes, length-activationBytes, length-registersBytes}
+use Rattle.head.proofs.Writing.{length-rowBytes, length-logBytes, length-activationBytes, length-registerBytes}
 use Rattle.head.proofs.HeadLaws.{headOf, headWith, encoded, by-three}
 
 -- a patch within what stands behind, and one of just what stands in front
@@ -90,16 +91,16 @@ activation-frame x₀ x₁ x₂ l₀ l₁ l₂ a g s b =
     ∙ sym (inner 2 60 (leBytes 2 1) (activationBytes b) _ _ refl (inner 12 48 (rowBytes x₀) (activationBytes b) _ _ (length-rowBytes x₀) (inner 12 36 (rowBytes x₁) (activationBytes b) _ _ (length-rowBytes x₁) (inner 12 24 (rowBytes x₂) (activationBytes b) _ _ (length-rowBytes x₂) (inner 8 16 (logBytes l₀) (activationBytes b) _ _ (length-logBytes l₀) (inner 8 8 (logBytes l₁) (activationBytes b) _ _ (length-logBytes l₁) (inner 8 0 (logBytes l₂) (activationBytes b) _ _ (length-logBytes l₂) (here (activationBytes a) (activationBytes b) _ 5 (length-activationBytes a) (length-activationBytes b)))))))))
     ∙ ap (patch 62 (activationBytes b)) (sym (encoded x₀ x₁ x₂ l₀ l₁ l₂ a g s))
 
-registers-frame : (x₀ x₁ x₂ : Row) (l₀ l₁ l₂ : LogHead) (a : Activation) (g : Registers) (s : Status) (f : Registers) → encodeHead (headOf x₀ x₁ x₂ l₀ l₁ l₂ a f s) ≡ patch 67 (registersBytes f) (encodeHead (headOf x₀ x₁ x₂ l₀ l₁ l₂ a g s))
+registers-frame : (x₀ x₁ x₂ : Row) (l₀ l₁ l₂ : LogHead) (a : Activation) (g : Registers) (s : Status) (f : Registers) → encodeHead (headOf x₀ x₁ x₂ l₀ l₁ l₂ a f s) ≡ patch 67 (registerBytes f) (encodeHead (headOf x₀ x₁ x₂ l₀ l₁ l₂ a g s))
 registers-frame x₀ x₁ x₂ l₀ l₁ l₂ a g s f =
     encoded x₀ x₁ x₂ l₀ l₁ l₂ a f s
-    ∙ sym (inner 2 65 (leBytes 2 1) (registersBytes f) _ _ refl (inner 12 53 (rowBytes x₀) (registersBytes f) _ _ (length-rowBytes x₀) (inner 12 41 (rowBytes x₁) (registersBytes f) _ _ (length-rowBytes x₁) (inner 12 29 (rowBytes x₂) (registersBytes f) _ _ (length-rowBytes x₂) (inner 8 21 (logBytes l₀) (registersBytes f) _ _ (length-logBytes l₀) (inner 8 13 (logBytes l₁) (registersBytes f) _ _ (length-logBytes l₁) (inner 8 5 (logBytes l₂) (registersBytes f) _ _ (length-logBytes l₂) (inner 5 0 (activationBytes a) (registersBytes f) _ _ (length-activationBytes a) (here (registersBytes g) (registersBytes f) _ 20 (length-registersBytes g) (length-registersBytes f))))))))))
-    ∙ ap (patch 67 (registersBytes f)) (sym (encoded x₀ x₁ x₂ l₀ l₁ l₂ a g s))
+    ∙ sym (inner 2 65 (leBytes 2 1) (registerBytes f) _ _ refl (inner 12 53 (rowBytes x₀) (registerBytes f) _ _ (length-rowBytes x₀) (inner 12 41 (rowBytes x₁) (registerBytes f) _ _ (length-rowBytes x₁) (inner 12 29 (rowBytes x₂) (registerBytes f) _ _ (length-rowBytes x₂) (inner 8 21 (logBytes l₀) (registerBytes f) _ _ (length-logBytes l₀) (inner 8 13 (logBytes l₁) (registerBytes f) _ _ (length-logBytes l₁) (inner 8 5 (logBytes l₂) (registerBytes f) _ _ (length-logBytes l₂) (inner 5 0 (activationBytes a) (registerBytes f) _ _ (length-activationBytes a) (here (registerBytes g) (registerBytes f) _ 20 (length-registerBytes g) (length-registerBytes f))))))))))
+    ∙ ap (patch 67 (registerBytes f)) (sym (encoded x₀ x₁ x₂ l₀ l₁ l₂ a g s))
 
 status-frame : (x₀ x₁ x₂ : Row) (l₀ l₁ l₂ : LogHead) (a : Activation) (g : Registers) (s : Status) (t : Status) → encodeHead (headOf x₀ x₁ x₂ l₀ l₁ l₂ a g t) ≡ patch 87 (statusByte t ∷ []) (encodeHead (headOf x₀ x₁ x₂ l₀ l₁ l₂ a g s))
 status-frame x₀ x₁ x₂ l₀ l₁ l₂ a g s t =
     encoded x₀ x₁ x₂ l₀ l₁ l₂ a g t
-    ∙ sym (inner 2 85 (leBytes 2 1) (statusByte t ∷ []) _ _ refl (inner 12 73 (rowBytes x₀) (statusByte t ∷ []) _ _ (length-rowBytes x₀) (inner 12 61 (rowBytes x₁) (statusByte t ∷ []) _ _ (length-rowBytes x₁) (inner 12 49 (rowBytes x₂) (statusByte t ∷ []) _ _ (length-rowBytes x₂) (inner 8 41 (logBytes l₀) (statusByte t ∷ []) _ _ (length-logBytes l₀) (inner 8 33 (logBytes l₁) (statusByte t ∷ []) _ _ (length-logBytes l₁) (inner 8 25 (logBytes l₂) (statusByte t ∷ []) _ _ (length-logBytes l₂) (inner 5 20 (activationBytes a) (statusByte t ∷ []) _ _ (length-activationBytes a) (inner 20 0 (registersBytes g) (statusByte t ∷ []) _ _ (length-registersBytes g) (here (statusByte s ∷ []) (statusByte t ∷ []) _ 1 refl refl))))))))))
+    ∙ sym (inner 2 85 (leBytes 2 1) (statusByte t ∷ []) _ _ refl (inner 12 73 (rowBytes x₀) (statusByte t ∷ []) _ _ (length-rowBytes x₀) (inner 12 61 (rowBytes x₁) (statusByte t ∷ []) _ _ (length-rowBytes x₁) (inner 12 49 (rowBytes x₂) (statusByte t ∷ []) _ _ (length-rowBytes x₂) (inner 8 41 (logBytes l₀) (statusByte t ∷ []) _ _ (length-logBytes l₀) (inner 8 33 (logBytes l₁) (statusByte t ∷ []) _ _ (length-logBytes l₁) (inner 8 25 (logBytes l₂) (statusByte t ∷ []) _ _ (length-logBytes l₂) (inner 5 20 (activationBytes a) (statusByte t ∷ []) _ _ (length-activationBytes a) (inner 20 0 (registerBytes g) (statusByte t ∷ []) _ _ (length-registerBytes g) (here (statusByte s ∷ []) (statusByte t ∷ []) _ 1 refl refl))))))))))
     ∙ ap (patch 87 (statusByte t ∷ [])) (sym (encoded x₀ x₁ x₂ l₀ l₁ l₂ a g s))
 
 -- three of each, in turn
@@ -154,7 +155,7 @@ frames = record {
   activation = λ h b p q.
       by-threes (λ rs ls. encodeHead (withActivation b (headWith rs ls h)) ≡ patch 62 (activationBytes b) (encodeHead (headWith rs ls h))) (λ x y z a c d. activation-frame x y z a c d (h .activation) (h .registers) (h .status) b) (h .rows) (h .logs) p q;
   registers = λ h f p q.
-      by-threes (λ rs ls. encodeHead (withRegisters f (headWith rs ls h)) ≡ patch 67 (registersBytes f) (encodeHead (headWith rs ls h))) (λ x y z a c d. registers-frame x y z a c d (h .activation) (h .registers) (h .status) f) (h .rows) (h .logs) p q;
+      by-threes (λ rs ls. encodeHead (withRegisters f (headWith rs ls h)) ≡ patch 67 (registerBytes f) (encodeHead (headWith rs ls h))) (λ x y z a c d. registers-frame x y z a c d (h .activation) (h .registers) (h .status) f) (h .rows) (h .logs) p q;
   status = λ h t p q.
       by-threes (λ rs ls. encodeHead (withStatus t (headWith rs ls h)) ≡ patch 87 (statusByte t ∷ []) (encodeHead (headWith rs ls h))) (λ x y z a c d. status-frame x y z a c d (h .activation) (h .registers) (h .status) t) (h .rows) (h .logs) p q;
   row-kept = row-kept;

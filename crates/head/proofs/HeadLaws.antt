@@ -21,11 +21,12 @@ use Rattle.records.specs.declared.registers.Registers.{Registers}
 use Rattle.records.specs.declared.status.Status.{Status}
 use Rattle.head.specs.Layout.{logSizes}
 use Rattle.records.specs.Statuses.{statusByte}
-use Rattle.head.specs.Pieces.{rowBytes, rowOf, logBytes, logOf, activationBytes, activationOf, registersBytes, registersOf, statusOf}
+use Rattle.records.specs.Layouts.{registerBytes, registersAt}
+use Rattle.head.specs.Pieces.{rowBytes, rowOf, logBytes, logOf, activationBytes, activationOf, statusOf}
 use Rattle.head.specs.Heads.{rowsFrom, logsFrom, activationFrom, registersFrom, statusFrom, decodeHead, encodeAs, encodeHead}
 use Rattle.head.specs.Order.{allZero, rowInOrder, logInOrder, activationInOrder, rowsInOrder, logsInOrder, restInOrder, inOrderAs, inOrder, LogFormed, LogsFormed, RowsFormed, RegistersFit, WellFormed}
 use Rattle.head.specs.Laws.{Laws}
-use Rattle.head.proofs.Writing.{three-same, both-same, all-same, length-rowBytes, length-logBytes, length-activationBytes, length-registersBytes}
+use Rattle.head.proofs.Writing.{three-same, both-same, all-same, length-rowBytes, length-logBytes, length-activationBytes, length-registerBytes}
 use Rattle.head.proofs.Bytes.{Small, word-2-back, all-zero}
 use Rattle.head.proofs.RowLaws.{row-reads, row-in-order, row-writes, row-formed}
 use Rattle.head.proofs.PieceLaws.{log-reads, log-in-order, log-writes, log-formed, activation-reads, activation-in-order, activation-writes, activation-formed, registers-reads, registers-writes, registers-fit, status-reads, status-in-order, status-writes}
@@ -79,14 +80,14 @@ headOf r₀ r₁ r₂ l₀ l₁ l₂ a g s =
     record { rows = r₀ ∷ r₁ ∷ r₂ ∷ []; logs = l₀ ∷ l₁ ∷ l₂ ∷ []; activation = a; registers = g; status = s }
 
 pub encoded : (r₀ r₁ r₂ : Row) (l₀ l₁ l₂ : LogHead) (a : Activation) (g : Registers) (s : Status) →
-    encodeHead (headOf r₀ r₁ r₂ l₀ l₁ l₂ a g s) ≡ laid (leBytes 2 1) (rowBytes r₀) (rowBytes r₁) (rowBytes r₂) (logBytes l₀) (logBytes l₁) (logBytes l₂) (activationBytes a) (registersBytes g) (statusByte s ∷ []) (replicate 422 0)
+    encodeHead (headOf r₀ r₁ r₂ l₀ l₁ l₂ a g s) ≡ laid (leBytes 2 1) (rowBytes r₀) (rowBytes r₁) (rowBytes r₂) (logBytes l₀) (logBytes l₁) (logBytes l₂) (activationBytes a) (registerBytes g) (statusByte s ∷ []) (replicate 422 0)
 unfolding encodeAs
 encoded r₀ r₁ r₂ l₀ l₁ l₂ a g s = simp (append-assoc, append-nil)
 
 cut-encoded : (r₀ r₁ r₂ : Row) (l₀ l₁ l₂ : LogHead) (a : Activation) (g : Registers) (s : Status) →
-    Cut (encodeHead (headOf r₀ r₁ r₂ l₀ l₁ l₂ a g s)) (leBytes 2 1) (rowBytes r₀) (rowBytes r₁) (rowBytes r₂) (logBytes l₀) (logBytes l₁) (logBytes l₂) (activationBytes a) (registersBytes g) (statusByte s ∷ []) (replicate 422 0)
+    Cut (encodeHead (headOf r₀ r₁ r₂ l₀ l₁ l₂ a g s)) (leBytes 2 1) (rowBytes r₀) (rowBytes r₁) (rowBytes r₂) (logBytes l₀) (logBytes l₁) (logBytes l₂) (activationBytes a) (registerBytes g) (statusByte s ∷ []) (replicate 422 0)
 cut-encoded r₀ r₁ r₂ l₀ l₁ l₂ a g s =
-    cut-laid _ _ _ _ _ _ _ _ _ _ _ _ (encoded r₀ r₁ r₂ l₀ l₁ l₂ a g s) refl (length-rowBytes r₀) (length-rowBytes r₁) (length-rowBytes r₂) (length-logBytes l₀) (length-logBytes l₁) (length-logBytes l₂) (length-activationBytes a) (length-registersBytes g) refl (length-replicate {A = ℕ} 422 0)
+    cut-laid _ _ _ _ _ _ _ _ _ _ _ _ (encoded r₀ r₁ r₂ l₀ l₁ l₂ a g s) refl (length-rowBytes r₀) (length-rowBytes r₁) (length-rowBytes r₂) (length-logBytes l₀) (length-logBytes l₁) (length-logBytes l₂) (length-activationBytes a) (length-registerBytes g) refl (length-replicate {A = ℕ} 422 0)
 
 -- a byte is the part of one byte there
 byte-there : (c : List ℕ) (n b : ℕ) → part 1 n c ≡ b ∷ [] → getD c n 0 ≡ b
@@ -110,9 +111,9 @@ activation-read : (c : List ℕ) (a : Activation) → part 5 62 c ≡ activation
 unfolding activationFrom
 activation-read c a e small = ap activationOf e ∙ activation-reads a small
 
-registers-read : (c : List ℕ) (g : Registers) → part 20 67 c ≡ registersBytes g → RegistersFit g → registersFrom 67 c ≡ g
+registers-read : (c : List ℕ) (g : Registers) → part 20 67 c ≡ registerBytes g → RegistersFit g → registersFrom 67 c ≡ g
 unfolding registersFrom
-registers-read c g e fit = ap registersOf e ∙ registers-reads g fit
+registers-read c g e fit = ap (registersAt 0) e ∙ registers-reads g fit
 
 status-read : (c : List ℕ) (s : Status) → part 1 87 c ≡ statusByte s ∷ [] → statusFrom 87 c ≡ s
 unfolding statusFrom
@@ -161,7 +162,7 @@ encoded-stands r₀ r₁ r₂ l₀ l₁ l₂ a g s w =
     let k = cut-encoded r₀ r₁ r₂ l₀ l₁ l₂ a g s in
     record {
       long = ap length (encoded r₀ r₁ r₂ l₀ l₁ l₂ a g s)
-          ∙ length-laid (leBytes 2 1) (rowBytes r₀) (rowBytes r₁) (rowBytes r₂) (logBytes l₀) (logBytes l₁) (logBytes l₂) (activationBytes a) (registersBytes g) (statusByte s ∷ []) (replicate 422 0) refl (length-rowBytes r₀) (length-rowBytes r₁) (length-rowBytes r₂) (length-logBytes l₀) (length-logBytes l₁) (length-logBytes l₂) (length-activationBytes a) (length-registersBytes g) refl (length-replicate {A = ℕ} 422 0);
+          ∙ length-laid (leBytes 2 1) (rowBytes r₀) (rowBytes r₁) (rowBytes r₂) (logBytes l₀) (logBytes l₁) (logBytes l₂) (activationBytes a) (registerBytes g) (statusByte s ∷ []) (replicate 422 0) refl (length-rowBytes r₀) (length-rowBytes r₁) (length-rowBytes r₂) (length-logBytes l₀) (length-logBytes l₁) (length-logBytes l₂) (length-activationBytes a) (length-registerBytes g) refl (length-replicate {A = ℕ} 422 0);
       reads = same-head _ _ _ _ _ _ _ _ _ _ (rows-read c r₀ r₁ r₂ (k .row₀) (k .row₁) (k .row₂) (w .rows)) (logs-read c l₀ l₁ l₂ (k .log₀) (k .log₁) (k .log₂) (w .logs)) (activation-read c a (k .activation) (w .activation)) (registers-read c g (k .registers) (w .registers)) (status-read c s (k .status));
       in-order = whole-order c (layout-order c (k .layout)) (rows-order c r₀ r₁ r₂ (k .row₀) (k .row₁) (k .row₂) (w .rows)) (logs-order c l₀ l₁ l₂ (k .log₀) (k .log₁) (k .log₂) (w .logs)) (rest-order c a s (k .activation) (k .status) (k .rest) (w .activation));
     }
@@ -241,7 +242,7 @@ pub written-head : (c : List ℕ) → length c ≡ 510 → Small c → inOrder c
 unfolding rowsFrom logsFrom activationFrom registersFrom statusFrom
 written-head c long small h =
     let o = ordered c h in
-    encoded (rowOf (part 12 2 c)) (rowOf (part 12 14 c)) (rowOf (part 12 26 c)) (logOf (part 8 38 c)) (logOf (part 8 46 c)) (logOf (part 8 54 c)) (activationOf (part 5 62 c)) (registersOf (part 20 67 c)) (statusOf (getD c 87 0))
+    encoded (rowOf (part 12 2 c)) (rowOf (part 12 14 c)) (rowOf (part 12 26 c)) (logOf (part 8 38 c)) (logOf (part 8 46 c)) (logOf (part 8 54 c)) (activationOf (part 5 62 c)) (registersAt 0 (part 20 67 c)) (statusOf (getD c 87 0))
     ∙ same-laid _ _ _ _ _ _ _ _ _ _ _ _ _ _ _ _ _ _ _ _ _ _
     (layout-piece c long small (o .layout))
     (row-writes (part 12 2 c) (length-part 2 12 c (omega arith)) (small-part 2 12 c small) (o .row₀))

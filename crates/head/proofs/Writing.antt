@@ -23,7 +23,8 @@ use Rattle.head.specs.declared.head.Activation.{Activation}
 use Rattle.logs.specs.declared.head.LogHead.{LogHead}
 use Rattle.records.specs.declared.registers.Registers.{Registers}
 use Rattle.head.specs.Order.{allZero}
-use Rattle.head.specs.Pieces.{rowBytes, logBytes, activationBytes, registersBytes}
+use Rattle.records.specs.Layouts.{registerBytes, fiveWords}
+use Rattle.head.specs.Pieces.{rowBytes, logBytes, activationBytes}
 
 abbrev pub plan : Trigger → Bool → Plan
 plan t s = record { trigger = t; «self_read» = s }
@@ -52,8 +53,8 @@ pub activation-written : (a : Activation) (h : ℕ) (four : List ℕ) → h ≡ 
 unfolding activationBytes
 activation-written a h four e f = ap (λ n. activationList n four) e ∙ ap (λ l. activationList (cond (a .happened) 1 0) l) f
 
-pub registers-written : (r : Registers) → patch 16 (leBytes 4 (r .tier4)) (patch 12 (leBytes 4 (r .tier3)) (patch 8 (leBytes 4 (r .tier2)) (patch 4 (leBytes 4 (r .tier1)) (patch 0 (leBytes 4 (r .total)) (replicate 20 0))))) ≡ registersBytes r
-unfolding patch registersBytes
+pub registers-written : (r : Registers) → patch 16 (leBytes 4 (r .tier4)) (patch 12 (leBytes 4 (r .tier3)) (patch 8 (leBytes 4 (r .tier2)) (patch 4 (leBytes 4 (r .tier1)) (patch 0 (leBytes 4 (r .total)) (replicate 20 0))))) ≡ registerBytes r
+unfolding patch fiveWords
 registers-written r = refl
 
 -- three pieces of one length, one behind another
@@ -125,9 +126,9 @@ pub length-activationBytes : (a : Activation) → length (activationBytes a) ≡
 unfolding activationBytes
 length-activationBytes a = refl
 
-pub length-registersBytes : (r : Registers) → length (registersBytes r) ≡ 20
-unfolding registersBytes
-length-registersBytes r = refl
+pub length-registerBytes : (r : Registers) → length (registerBytes r) ≡ 20
+unfolding fiveWords
+length-registerBytes r = refl
 
 -- three of a kind
 pub joined-three : {X : Type 0} (f : X → List ℕ) (xs : List X) (d : X) → length xs ≡ 3 → joined f xs ≡ f (getD xs 0 d) ++ (f (getD xs 1 d) ++ (f (getD xs 2 d) ++ []))

@@ -12,7 +12,8 @@ use Rattle.records.specs.declared.registers.Registers.{Registers}
 use Rattle.records.specs.declared.status.Status.{Status}
 use Rattle.head.specs.Layout.{layoutNumber, rowLength, logLength, activationLength, registersLength, rowsPlace, logsPlace, activationPlace, registersPlace, statusPlace, restLength}
 use Rattle.records.specs.Statuses.{statusByte}
-use Rattle.head.specs.Pieces.{rowBytes, rowOf, logBytes, logOf, activationBytes, activationOf, registersBytes, registersOf, statusOf}
+use Rattle.records.specs.Layouts.{registerBytes, registersAt}
+use Rattle.head.specs.Pieces.{rowBytes, rowOf, logBytes, logOf, activationBytes, activationOf, statusOf}
 
 -- What stands from a place on.
 unfoldable pub rowsFrom : ℕ → List ℕ → List Row
@@ -25,7 +26,7 @@ unfoldable pub activationFrom : ℕ → List ℕ → Activation
 activationFrom at c = activationOf (part activationLength at c)
 
 unfoldable pub registersFrom : ℕ → List ℕ → Registers
-registersFrom at c = registersOf (part registersLength at c)
+registersFrom at c = registersAt 0 (part registersLength at c)
 
 unfoldable pub statusFrom : ℕ → List ℕ → Status
 statusFrom at c = statusOf (getD c at 0)
@@ -43,7 +44,7 @@ decodeHead c = record {
 -- The bytes under a layout number.
 unfoldable pub encodeAs : ℕ → Head → List ℕ
 encodeAs layout h =
-    leBytes 2 layout ++ (joined rowBytes (h .rows) ++ (joined logBytes (h .logs) ++ (activationBytes (h .activation) ++ (registersBytes (h .registers) ++ (statusByte (h .status) ∷ [] ++ replicate restLength 0)))))
+    leBytes 2 layout ++ (joined rowBytes (h .rows) ++ (joined logBytes (h .logs) ++ (activationBytes (h .activation) ++ (registerBytes (h .registers) ++ (statusByte (h .status) ∷ [] ++ replicate restLength 0)))))
 
 -- Block 0 that says so.
 abbrev pub encodeHead : Head → List ℕ

@@ -14,7 +14,8 @@ use Rattle.records.specs.declared.registers.Registers.{Registers}
 use Rattle.records.specs.declared.status.Status.{Status}
 use Rattle.head.specs.Layout.{blockLength, rowCount, logCount, logSizes, rowPlace, logPlace, activationPlace, registersPlace, statusPlace}
 use Rattle.records.specs.Statuses.{statusByte}
-use Rattle.head.specs.Pieces.{rowBytes, logBytes, activationBytes, registersBytes}
+use Rattle.records.specs.Layouts.{registerBytes}
+use Rattle.head.specs.Pieces.{rowBytes, logBytes, activationBytes}
 use Rattle.head.specs.Heads.{decodeHead, encodeHead, withRow, withLog, withActivation, withRegisters, withStatus}
 use Rattle.head.specs.Order.{inOrder, LogFormed, WellFormed}
 
@@ -31,7 +32,7 @@ pub record Frames : Type 0 where
   pub row : (h : Head) (k : ℕ) (r : Row) → length (h .rows) ≡ rowCount → length (h .logs) ≡ logCount → k < rowCount → encodeHead (withRow k r h) ≡ patch (rowPlace k) (rowBytes r) (encodeHead h)
   pub log : (h : Head) (k : ℕ) (l : LogHead) → length (h .rows) ≡ rowCount → length (h .logs) ≡ logCount → k < logCount → encodeHead (withLog k l h) ≡ patch (logPlace k) (logBytes l) (encodeHead h)
   pub activation : (h : Head) (a : Activation) → length (h .rows) ≡ rowCount → length (h .logs) ≡ logCount → encodeHead (withActivation a h) ≡ patch activationPlace (activationBytes a) (encodeHead h)
-  pub registers : (h : Head) (g : Registers) → length (h .rows) ≡ rowCount → length (h .logs) ≡ logCount → encodeHead (withRegisters g h) ≡ patch registersPlace (registersBytes g) (encodeHead h)
+  pub registers : (h : Head) (g : Registers) → length (h .rows) ≡ rowCount → length (h .logs) ≡ logCount → encodeHead (withRegisters g h) ≡ patch registersPlace (registerBytes g) (encodeHead h)
   pub status : (h : Head) (s : Status) → length (h .rows) ≡ rowCount → length (h .logs) ≡ logCount → encodeHead (withStatus s h) ≡ patch statusPlace (statusByte s ∷ []) (encodeHead h)
   pub row-kept : (h : Head) (k : ℕ) (r : Row) → WellFormed h → isRowFormed r ≡ true → WellFormed (withRow k r h)
   pub log-kept : (h : Head) (k : ℕ) (l : LogHead) → WellFormed h → LogFormed (getD logSizes k 0) l → WellFormed (withLog k l h)
