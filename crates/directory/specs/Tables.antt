@@ -16,7 +16,7 @@ use Rattle.directory.specs.declared.entry.Source.{Source}
 use Rattle.directory.specs.declared.entry.Source.the-variants.{Computed, Initiate, Utility, Staged, Pending, Log}
 use Rattle.directory.specs.declared.entry.TableEntry.{TableEntry}
 use Rattle.logs.specs.Tables.{tableLength}
-use Rattle.directory.specs.Geometry.{currentBlock, pendingBlock, logPlace}
+use Rattle.directory.specs.Geometry.{currentBlock, logPlace}
 
 abbrev pub entry : ℕ → ℕ → Source → TableEntry
 entry number length source = record { number = number; length = length; source = source }
@@ -37,16 +37,16 @@ directory =
     ∷ (entry 2095 16 (Staged Override)
     ∷ [])))))))))))
 
--- The block at whose start a table is, if it is in one.
+-- The block at whose start a table is, if it is in one. A pending table has its trigger bytes in block 0, and only then the bytes of its block.
 abbrev pub blockOf : Source → Option ℕ
 blockOf (Computed view) = None
 blockOf Initiate = None
 blockOf Utility = Some 1
 blockOf (Staged table) = Some (currentBlock table)
-blockOf (Pending table) = Some (pendingBlock table)
+blockOf (Pending table) = None
 blockOf (Log log) = None
 
--- The bytes that a source has. A block has 510, of which a pending content takes six more than the one in force.
+-- The bytes that a source has. A block has 510, and a pending table six trigger bytes more.
 abbrev pub room : Source → ℕ
 room (Computed PendingStatus) = 31
 room (Computed Response) = 4
@@ -54,8 +54,8 @@ room (Computed Registers) = 20
 room (Computed Clock) = 6
 room Initiate = 9
 room Utility = 510
-room (Staged table) = 504
-room (Pending table) = 510
+room (Staged table) = 510
+room (Pending table) = 516
 room (Log log) = tableLength (logPlace log)
 
 abbrev pub Inside : TableEntry → Type 0

@@ -21,7 +21,7 @@ pub enum Source {
     Utility,
     // The start of the block in force.
     Staged(PendingTable),
-    // The start of the pending block.
+    // The trigger bytes, and then the start of the pending block.
     Pending(PendingTable),
     // The head and the slots of a log.
     Log(LogName),

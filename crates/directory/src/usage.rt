@@ -7,7 +7,6 @@ use crate::entry::Source;
 use crate::entry::TableEntry;
 use crate::lookup::find;
 use crate::staged::current_block;
-use crate::staged::pending_block;
 use numbers::service::Service;
 use refusals::fault::ServiceFault;
 
@@ -39,7 +38,6 @@ impl Source {
         match self {
             Source::Utility => Some(UTILITY_BLOCK),
             Source::Staged(table) => Some(current_block(table)),
-            Source::Pending(table) => Some(pending_block(table)),
             _ => None,
         }
     }

@@ -12,11 +12,11 @@ use crate::codec::rows_from;
 use crate::codec::status_from;
 use crate::codec::write_as;
 use crate::layout;
-use logs::head::LogHead;
 use crate::order::is_in_order_as;
+use logs::head::LogHead;
+use pending::row::Row;
 use records::registers::Registers;
 use records::status::Status;
-use pending::row::Row;
 
 // The last activation of a staged table: whether there was one, and its second.
 #[derive(Clone, Copy)]

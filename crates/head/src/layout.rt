@@ -17,7 +17,11 @@ pub const LOG_COUNT: usize = 3;
 pub const LOG_LENGTH: usize = 8;
 
 // How many records a log can hold: the history, the self-reads, the load profile.
-pub const LOG_SIZES: [u16; LOG_COUNT] = [HISTORY_LOG.size, SELF_READ_LOG.size, LOAD_PROFILE_LOG.size];
+pub const LOG_SIZES: [u16; LOG_COUNT] = [
+    HISTORY_LOG.size,
+    SELF_READ_LOG.size,
+    LOAD_PROFILE_LOG.size,
+];
 
 pub const ACTIVATION_LENGTH: usize = 5;
 

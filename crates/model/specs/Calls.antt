@@ -40,9 +40,9 @@ pub record Done : Type 0 where
   pub entries : List Recorded
 
 -- The first that refuses.
-abbrev pub andThen : {X E : Type 0} → Result (Unit {0}) E → Result X E → Result X E
-andThen (Ok x) next = next
-andThen (Err e) next = Err e
+abbrev pub orElse : {E : Type 0} → Result (Unit {0}) E → Result (Unit {0}) E → Result (Unit {0}) E
+orElse (Ok x) next = next
+orElse (Err e) next = Err e
 
 abbrev pub ofMemory : Result (Unit {0}) MemoryFault → Result (Unit {0}) MeterFault
 ofMemory (Ok x) = Ok tt
@@ -76,21 +76,30 @@ freshBlocks n (suc count) = sound (freshContent n) ∷ freshBlocks (n + 1) count
 unfoldable pub formatted : List Block → List Block
 formatted bs = freshBlocks 0 needed ++ drop needed bs
 
-abbrev pub formatVerdict : List Block → Result (Unit {0}) MemoryFault
-formatVerdict bs = sizeVerdict bs
+-- The answer to a format, and the blocks then: a refusal leaves them.
+pub record Formatted : Type 0 where
+  pub answer : Result (Unit {0}) MemoryFault
+  pub blocks : List Block
+
+abbrev pub formatIf : Result (Unit {0}) MemoryFault → List Block → Formatted
+formatIf (Ok x) bs = record { answer = Ok tt; blocks = formatted bs }
+formatIf (Err e) bs = record { answer = Err e; blocks = bs }
+
+abbrev pub format : List Block → Formatted
+format bs = formatIf (sizeVerdict bs) bs
 
 -- Start: the check of the image, and then the second that is given.
 abbrev pub orderVerdict : List Block → Result (Unit {0}) MeterFault
 orderVerdict bs = cond (inOrder (contentOf bs 0)) (Ok tt) (Err OutOfOrder)
 
 abbrev pub imageVerdict : List Block → Result (Unit {0}) MeterFault
-imageVerdict bs = andThen (ofMemory (readyVerdict bs)) (andThen (orderVerdict bs) (totalsVerdict bs))
+imageVerdict bs = orElse (ofMemory (readyVerdict bs)) (orElse (orderVerdict bs) (totalsVerdict bs))
 
 abbrev pub secondVerdict : ℕ → Result (Unit {0}) MeterFault
 secondVerdict s = cond (ltb s secondsInAll) (Ok tt) (Err BadSecond)
 
 abbrev pub startVerdict : List Block → ℕ → Result (Unit {0}) MeterFault
-startVerdict bs s = andThen (imageVerdict bs) (secondVerdict s)
+startVerdict bs s = orElse (imageVerdict bs) (secondVerdict s)
 
 -- Bit 0 of the status, event 1, and the change of time.
 abbrev pub markStarted : Head → Head
@@ -102,21 +111,22 @@ powerUp s g = timeChanged s (noted s PowerUp (onHead markStarted g))
 abbrev pub meterOf : List Block → ℕ → Meter
 meterOf bs s = record { blocks = bs; clock = s; response = None }
 
--- A started meter, or a refusal with the blocks as they were.
+-- A started meter, or a refusal; the blocks then, which a refusal leaves.
 pub record Started : Type 0 where
   pub answer : Result Meter MeterFault
+  pub blocks : List Block
   pub entries : List Recorded
 
 abbrev pub startedIf : Result (Unit {0}) MeterFault → ℕ → Going → Started
-startedIf (Ok x) s g = record { answer = Ok (meterOf (ended (powerUp s g)) s); entries = powerUp s g .entries }
-startedIf (Err e) s g = record { answer = Err e; entries = [] }
+startedIf (Ok x) s g = record { answer = Ok (meterOf (ended (powerUp s g)) s); blocks = ended (powerUp s g); entries = powerUp s g .entries }
+startedIf (Err e) s g = record { answer = Err e; blocks = g .blocks; entries = [] }
 
 abbrev pub started : List Block → ℕ → Started
 started bs s = startedIf (startVerdict bs s) s (begun bs)
 
 -- Tick: the clock gains a second; rows that are due, the scheduled self-read, the interval record.
 abbrev pub tickVerdict : Meter → Result (Unit {0}) MeterFault
-tickVerdict m = andThen (ofMemory (readyVerdict (m .blocks))) (andThen (totalsVerdict (m .blocks)) (secondVerdict (m .clock + 1)))
+tickVerdict m = orElse (ofMemory (readyVerdict (m .blocks))) (orElse (totalsVerdict (m .blocks)) (secondVerdict (m .clock + 1)))
 
 abbrev pub scheduledRead : ℕ → Going → Going
 scheduledRead s g = cond (isScheduled (currentTable Calendar (g .blocks)) s) (selfReadTaken s g) g

@@ -82,7 +82,7 @@ fitted t (partialRead table offset count) = andThen (partVerdict offset count (t
 fitted t (fullWrite table bytes) = andThen (countVerdict t (length bytes)) (λ _. Ok (writeAll (t .source) t bytes))
 fitted t (partialWrite table offset bytes) = andThen (partVerdict offset (length bytes) (t .length)) (λ p. Ok (writing t (p .from) bytes))
 
--- Right trigger bytes: a plan, and a second of the calendar in which it takes force.
+-- Right trigger bytes: a plan, and when it takes force.
 abbrev pub dueWith : Plan → Option Due → Option (Plan × Due)
 dueWith plan None = None
 dueWith plan (Some due) = Some (plan, due)
@@ -125,11 +125,11 @@ sourceVerdict (source.Staged t) response h = Ok tt
 sourceVerdict (source.Pending t) response h = cond (isWaiting (state.rowOf t h)) (Ok tt) (Err NotReady)
 sourceVerdict (source.Log name) response h = Ok tt
 
-abbrev pub readyVerdict : Deed → Option state.Response → Head → Result (Unit {0}) ServiceFault
-readyVerdict (reading t p) response h = sourceVerdict (t .source) response h
-readyVerdict (writing t from bytes) response h = Ok tt
-readyVerdict (staging t table bytes) response h = Ok tt
-readyVerdict (calling bytes) response h = Ok tt
+abbrev pub presentVerdict : Deed → Option state.Response → Head → Result (Unit {0}) ServiceFault
+presentVerdict (reading t p) response h = sourceVerdict (t .source) response h
+presentVerdict (writing t from bytes) response h = Ok tt
+presentVerdict (staging t table bytes) response h = Ok tt
+presentVerdict (calling bytes) response h = Ok tt
 
 -- The order of refusals from the request's form up to its part.
 abbrev pub decided : ℕ → List ℕ → Result Deed ServiceFault

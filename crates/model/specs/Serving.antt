@@ -10,13 +10,11 @@ use Rattle.std.specs.declared.result.Result.the-variants.{Ok, Err}
 use Rattle.access.specs.Ready.{contentOf, stored, readyVerdict}
 use Rattle.fields.specs.Words.{part}
 use Rattle.fields.specs.Patches.{patch, overlay}
-use Rattle.memory.specs.declared.fault.MemoryFault.{MemoryFault}
 use Rattle.memory.specs.Blocks.{Block}
 use Rattle.numbers.specs.declared.procedure.ProcedureResult.{ProcedureResult}
 use Rattle.numbers.specs.declared.service.AnswerCode.the-variants as code
 use Rattle.numbers.specs.Names.{codeNumber}
 use Rattle.refusals.specs.declared.fault.MeterFault.{MeterFault}
-use Rattle.refusals.specs.declared.fault.MeterFault.the-variants as meterFault
 use Rattle.refusals.specs.declared.fault.ServiceFault.{ServiceFault}
 use Rattle.refusals.specs.declared.fault.ServiceFault.the-variants as fault
 use Rattle.request.specs.Answers.{answerBytes, refused, wiped, bufferVerdict}
@@ -36,7 +34,7 @@ use Rattle.head.specs.Heads.{decodeHead}
 use Rattle.model.specs.States.{Meter, Going, Recorded, Response, begun, ended, setRow, onHead, onBlocks}
 use Rattle.model.specs.Steps.{noted}
 use Rattle.model.specs.Tables.{tableBytes}
-use Rattle.model.specs.Calls.{totalsVerdict}
+use Rattle.model.specs.Calls.{ofMemory, totalsVerdict}
 use Rattle.model.specs.Procedures.{Order, called, calledNumber, clockAfter, carriedOut, resultOf, responseTo}
 use Rattle.model.specs.Requests as request
 
@@ -48,12 +46,12 @@ pub record Outcome : Type 0 where
   pub procedure : Option ProcedureResult
 
 -- The answer to a write is one byte.
-abbrev pub written : List ℕ
-written = codeNumber code.Ok ∷ []
+abbrev pub writeAnswer : List ℕ
+writeAnswer = codeNumber code.Ok ∷ []
 
 -- A call that changed the memory: the entries are those that it recorded.
 abbrev pub changed : Meter → ℕ → Option Response → Option ProcedureResult → Going → Outcome
-changed m clock response result g = record { bytes = written; meter = record { blocks = ended g; clock = clock; response = response }; entries = g .entries; procedure = result }
+changed m clock response result g = record { bytes = writeAnswer; meter = record { blocks = ended g; clock = clock; response = response }; entries = g .entries; procedure = result }
 
 -- Bytes at a place of the block that a table is in.
 abbrev pub putIn : Option ℕ → ℕ → List ℕ → List Block → List Block
@@ -79,7 +77,7 @@ abbrev pub callDone : Meter → List ℕ → Result Order ProcedureResult → Ou
 callDone m bytes (Ok order) =
     changed m (clockAfter (m .clock) order) (Some (responseTo bytes (resultOf (Ok order)))) (Some (resultOf (Ok order))) (carriedOut (clockAfter (m .clock) order) (calledNumber bytes) order (begun (m .blocks)))
 callDone m bytes (Err r) =
-    record { bytes = written; meter = record { blocks = m .blocks; clock = m .clock; response = Some (responseTo bytes r) }; entries = []; procedure = Some r }
+    record { bytes = writeAnswer; meter = record { blocks = m .blocks; clock = m .clock; response = Some (responseTo bytes r) }; entries = []; procedure = Some r }
 
 abbrev pub headOf : Meter → Head
 headOf m = decodeHead (contentOf (m .blocks) 0)
@@ -91,11 +89,7 @@ performed (request.writing t from bytes) m = changed m (m .clock) (m .response) 
 performed (request.staging t table bytes) m = changed m (m .clock) (m .response) None (stageDone m t table bytes)
 performed (request.calling bytes) m = callDone m bytes (called bytes (headOf m))
 
--- The limit of the logs is asked last, for writes.
-abbrev pub ofMemory : Result (Unit {0}) MemoryFault → Result (Unit {0}) ServiceFault
-ofMemory (Ok x) = Ok tt
-ofMemory (Err e) = Err (fault.Meter (meterFault.Memory e))
-
+-- Faults of the layers below, and the limit of the logs, which is asked last, for writes.
 abbrev pub ofMeter : Result (Unit {0}) MeterFault → Result (Unit {0}) ServiceFault
 ofMeter (Ok x) = Ok tt
 ofMeter (Err e) = Err (fault.Meter e)
@@ -109,8 +103,8 @@ limited (request.calling bytes) bs = ofMeter (totalsVerdict bs)
 -- The deed that a request is admitted to, or the first refusal in order.
 abbrev pub admitted : ℕ → List ℕ → Meter → Result request.Deed ServiceFault
 admitted key bytes m =
-    request.andThen (ofMemory (readyVerdict (m .blocks))) (λ _. request.andThen (request.decided key bytes) (λ deed.
-    request.andThen (request.contentVerdict deed (m .clock) (m .blocks)) (λ _. request.andThen (request.readyVerdict deed (m .response) (headOf m)) (λ _.
+    request.andThen (ofMeter (ofMemory (readyVerdict (m .blocks)))) (λ _. request.andThen (request.decided key bytes) (λ deed.
+    request.andThen (request.contentVerdict deed (m .clock) (m .blocks)) (λ _. request.andThen (request.presentVerdict deed (m .response) (headOf m)) (λ _.
     request.andThen (limited deed (m .blocks)) (λ _. Ok deed)))))
 
 -- What serving leaves: the result is the number of answer bytes, or the refusal.

@@ -45,7 +45,7 @@ pub record Going : Type 0 where
   pub blocks : List Block
   pub entries : List Recorded
 
--- Block 0 is read as the call begins and written as it ends.
+-- Block 0 is read as the call begins, and written as it ends if it changed the memory.
 abbrev pub begun : List Block → Going
 begun bs = record { head = decodeHead (contentOf bs 0); blocks = bs; entries = [] }
 

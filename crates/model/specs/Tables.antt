@@ -56,7 +56,7 @@ rowsShown (t ∷ ts) h = rowShown t (state.rowOf t h) ++ rowsShown ts h
 abbrev pub pendingStatusTable : Head → List ℕ
 pendingStatusTable h = activationDate (h .activation) ++ (waitingIn (h .rows) ∷ rowsShown allTables h)
 
--- Table 8: the procedure's number, its sequence byte, its result. Before any it is not ready, and shows nothing.
+-- Table 8: the procedure's number, its sequence byte, its result. Before any it is not ready, and these bytes are not shown.
 abbrev pub responseTable : Option state.Response → List ℕ
 responseTable None = replicate 4 0
 responseTable (Some r) = leBytes 2 (r .procedure) ++ (r .sequence ∷ (resultNumber (r .result) ∷ []))
