@@ -63,6 +63,24 @@ twinLength length (Log log) = 0
 abbrev pub twinRight : List TableEntry → TableEntry → Bool
 twinRight tables t = eqb (lengthIf (numberedBy (lookup tables) (t .number + 4096))) (twinLength (t .length) (t .source))
 
+-- The blocks of a row are those of its source.
+abbrev pub sameBlock : Option ℕ → List ℕ → Bool
+sameBlock None [] = true
+sameBlock None (b ∷ bs) = false
+sameBlock (Some n) [] = false
+sameBlock (Some n) (b ∷ bs) = eqb n b
+
+abbrev pub pendingOf : Source → List ℕ
+pendingOf (Computed view) = []
+pendingOf Initiate = []
+pendingOf Utility = []
+pendingOf (Staged table) = pendingBlock table ∷ []
+pendingOf (Pending table) = []
+pendingOf (Log log) = []
+
+abbrev pub blockRight : TableEntry → Bool
+blockRight t = sameBlock (t .block) (blocksOf (t .source)) && sameBlock (t .pending) (pendingOf (t .source))
+
 -- A row of a staged table has its number and length.
 abbrev pub stagedIs : ℕ → ℕ → Source → Bool
 stagedIs number length (Computed view) = true
@@ -100,6 +118,7 @@ isInside t = leb (t .length) (room (t .source))
 pub record Lawful (tables : List TableEntry) : Type 0 where
   pub numbers : distinct (allNumbers tables) ≡ true
   pub blocks : distinct (allBlocks tables) ≡ true
+  pub placed : every blockRight tables ≡ true
   pub within : every inMemory (allBlocks tables) ≡ true
   pub inside : every isInside tables ≡ true
   pub twins : every (twinRight tables) tables ≡ true

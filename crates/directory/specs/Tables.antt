@@ -12,39 +12,34 @@ use Rattle.refusals.specs.declared.fault.ServiceFault.{ServiceFault}
 use Rattle.refusals.specs.declared.fault.ServiceFault.the-variants.{UnknownTable}
 use Rattle.pending.specs.declared.table.PendingTable.the-variants.{Calendar, Outputs, Override}
 use Rattle.directory.specs.declared.entry.View.the-variants.{PendingStatus, Response, Registers, Clock}
+use Rattle.directory.specs.declared.entry.Access.{Access}
+use Rattle.directory.specs.declared.entry.Access.the-variants as access
+use Rattle.directory.specs.declared.entry.Access.the-variants.{Read, ReadWrite}
 use Rattle.directory.specs.declared.entry.Source.{Source}
 use Rattle.directory.specs.declared.entry.Source.the-variants.{Computed, Initiate, Utility, Staged, Pending, Log}
 use Rattle.directory.specs.declared.entry.TableEntry.{TableEntry}
 use Rattle.logs.specs.Tables.{tableLength}
-use Rattle.directory.specs.Geometry.{currentBlock, logPlace}
+use Rattle.directory.specs.Geometry.{logPlace}
 
-abbrev pub entry : ℕ → ℕ → Source → TableEntry
-entry number length source = record { number = number; length = length; source = source }
+abbrev pub entry : ℕ → ℕ → Option ℕ → Option ℕ → Access → Source → TableEntry
+entry number length block pending access source = record { number = number; length = length; block = block; pending = pending; access = access; source = source }
 
+-- Number, length, block or first block, pending block, use, and where the bytes come from.
 abbrev pub directory : List TableEntry
 directory =
-    entry 4 31 (Computed PendingStatus)
-    ∷ (entry 6 40 Utility
-    ∷ (entry 7 9 Initiate
-    ∷ (entry 8 4 (Computed Response)
-    ∷ (entry 23 20 (Computed Registers)
-    ∷ (entry 26 634 (Log SelfReads)
-    ∷ (entry 52 6 (Computed Clock)
-    ∷ (entry 54 120 (Staged Calendar)
-    ∷ (entry 64 7402 (Log LoadProfile)
-    ∷ (entry 74 1030 (Log History)
-    ∷ (entry 2053 60 (Staged Outputs)
-    ∷ (entry 2095 16 (Staged Override)
+    entry 4 31 None None Read (Computed PendingStatus)
+    ∷ (entry 6 40 (Some 1) None ReadWrite Utility
+    ∷ (entry 7 9 None None access.FullWrite Initiate
+    ∷ (entry 8 4 None None Read (Computed Response)
+    ∷ (entry 23 20 None None Read (Computed Registers)
+    ∷ (entry 26 634 (Some 10) None Read (Log SelfReads)
+    ∷ (entry 52 6 None None Read (Computed Clock)
+    ∷ (entry 54 120 (Some 2) (Some 5) ReadWrite (Staged Calendar)
+    ∷ (entry 64 7402 (Some 12) None Read (Log LoadProfile)
+    ∷ (entry 74 1030 (Some 8) None Read (Log History)
+    ∷ (entry 2053 60 (Some 3) (Some 6) ReadWrite (Staged Outputs)
+    ∷ (entry 2095 16 (Some 4) (Some 7) ReadWrite (Staged Override)
     ∷ [])))))))))))
-
--- The block at whose start a table is, if it is in one. A pending table has its trigger bytes in block 0, and only then the bytes of its block.
-abbrev pub blockOf : Source → Option ℕ
-blockOf (Computed view) = None
-blockOf Initiate = None
-blockOf Utility = Some 1
-blockOf (Staged table) = Some (currentBlock table)
-blockOf (Pending table) = None
-blockOf (Log log) = None
 
 -- The bytes that a source has. A block has 510, and a pending table six trigger bytes more.
 abbrev pub room : Source → ℕ
@@ -66,16 +61,16 @@ lookup [] n = None
 lookup (t ∷ ts) n = cond (eqb (t .number) n) (Some t) (lookup ts n)
 
 -- A staged table has a pending twin under a number of its own, six bytes longer.
-abbrev pub twinFrom : ℕ → ℕ → Source → Option TableEntry
-twinFrom n length (Computed view) = None
-twinFrom n length Initiate = None
-twinFrom n length Utility = None
-twinFrom n length (Staged table) = Some (entry n (length + 6) (Pending table))
-twinFrom n length (Pending table) = None
-twinFrom n length (Log log) = None
+abbrev pub twinFrom : ℕ → ℕ → Option ℕ → Source → Option TableEntry
+twinFrom n length pending (Computed view) = None
+twinFrom n length pending Initiate = None
+twinFrom n length pending Utility = None
+twinFrom n length pending (Staged table) = Some (entry n (length + 6) None pending access.Pending (Pending table))
+twinFrom n length pending (Pending table) = None
+twinFrom n length pending (Log log) = None
 
 abbrev pub twinOf : ℕ → TableEntry → Option TableEntry
-twinOf n t = twinFrom n (t .length) (t .source)
+twinOf n t = twinFrom n (t .length) (t .pending) (t .source)
 
 abbrev pub twinIf : ℕ → Option TableEntry → Option TableEntry
 twinIf n None = None

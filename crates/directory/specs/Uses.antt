@@ -8,6 +8,9 @@ use Rattle.numbers.specs.declared.service.Service.{Service}
 use Rattle.numbers.specs.declared.service.Service.the-variants.{FullRead, PartialRead, FullWrite, PartialWrite}
 use Rattle.refusals.specs.declared.fault.ServiceFault.{ServiceFault}
 use Rattle.refusals.specs.declared.fault.ServiceFault.the-variants.{NoSuchUse, BadPart}
+use Rattle.directory.specs.declared.entry.Access.{Access}
+use Rattle.directory.specs.declared.entry.Access.the-variants as access
+use Rattle.directory.specs.declared.entry.Access.the-variants.{Read, ReadWrite}
 use Rattle.directory.specs.declared.entry.Source.{Source}
 use Rattle.directory.specs.declared.entry.Source.the-variants.{Computed, Initiate, Utility, Staged, Pending, Log}
 use Rattle.directory.specs.declared.entry.TableEntry.{TableEntry}
@@ -25,17 +28,15 @@ isFullWrite PartialRead = false
 isFullWrite FullWrite = true
 isFullWrite PartialWrite = false
 
--- Which services a table has, by where its bytes are.
-abbrev pub allows : Source → Service → Bool
-allows (Computed view) s = isRead s
-allows Initiate s = isFullWrite s
-allows Utility s = true
-allows (Staged table) s = true
-allows (Pending table) s = cond (isRead s) true (isFullWrite s)
-allows (Log log) s = isRead s
+-- Which services a use has.
+abbrev pub allows : Access → Service → Bool
+allows Read s = isRead s
+allows ReadWrite s = true
+allows access.FullWrite s = isFullWrite s
+allows access.Pending s = cond (isRead s) true (isFullWrite s)
 
 abbrev pub useVerdict : TableEntry → Service → Result TableEntry ServiceFault
-useVerdict t s = cond (allows (t .source) s) (Ok t) (Err NoSuchUse)
+useVerdict t s = cond (allows (t .access) s) (Ok t) (Err NoSuchUse)
 
 -- A table for a service: first whether there is such a table, then whether it has this use.
 abbrev pub usable : Result TableEntry ServiceFault → Service → Result TableEntry ServiceFault

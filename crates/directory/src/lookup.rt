@@ -5,6 +5,7 @@ ghost use Rattle.std.specs.Vec.{made};
 ghost use Rattle.std.specs.shelf.Lists.{All};
 ghost use Rattle.directory.specs.Tables.{directory, Inside, lookup, listed, twinOf, numbered, findTable};
 ghost use Rattle.directory.specs.Lawful.{Lawful};
+use crate::entry::Access;
 use crate::entry::DIRECTORY;
 use crate::entry::Source;
 use crate::entry::TableEntry;
@@ -34,7 +35,7 @@ fn find_listed(number: u16) -> Option<TableEntry>
     ensures inside { λ r. ⌜ found r Inside ⌝ }
     ensures named { λ r. ⌜ found r (λ t. t .number ≡ number) ⌝ }
 {
-    find_in(&DIRECTORY, number)
+    find_in(&tables(), number)
 }
 
 // The pending twin of a table under its own number; only a staged table has one.
@@ -48,6 +49,9 @@ fn twin(number: u16, entry: TableEntry) -> Option<TableEntry>
         Source::Staged(table) => Some(TableEntry {
             number,
             length: entry.length + TWIN_LENGTH,
+            block: None,
+            pending: entry.pending,
+            access: Access::Pending,
             source: Source::Pending(table),
         }),
         _ => None,

@@ -1,44 +1,28 @@
 // What a table may be used for.
 ghost use mathlib.Core.Path.{_≡_};
 ghost use Rattle.std.specs.Vec.{made};
-ghost use Rattle.directory.specs.Tables.{Inside, blockOf};
+ghost use Rattle.directory.specs.Tables.{Inside};
 ghost use Rattle.directory.specs.Uses.{allows, tableFor, countVerdict};
+use crate::entry::Access;
 use crate::entry::Source;
 use crate::entry::TableEntry;
 use crate::lookup::find;
-use crate::staged::current_block;
 use numbers::service::Service;
 use refusals::fault::ServiceFault;
-
-// The block of the utility table.
-const UTILITY_BLOCK: u32 = 1;
 
 // The fewest bytes that start a procedure.
 const LEAST_INITIATE: u16 = 3;
 
-impl Source {
-    // Whether a service may use a table of this source.
+impl Access {
+    // Whether a service is one of these uses.
     pub fn allows(self, service: Service) -> bool
         ensures { λ r. ⌜ r ≡ allows self service ⌝ }
     {
         match self {
-            Source::Computed(_) | Source::Log(_) => {
-                matches!(service, Service::FullRead | Service::PartialRead)
-            }
-            Source::Initiate => matches!(service, Service::FullWrite),
-            Source::Utility | Source::Staged(_) => true,
-            Source::Pending(_) => !matches!(service, Service::PartialWrite),
-        }
-    }
-
-    // The block at whose start a table of this source is, if it is in one.
-    pub fn block(self) -> Option<u32>
-        ensures { λ r. ⌜ r ≡ blockOf self ⌝ }
-    {
-        match self {
-            Source::Utility => Some(UTILITY_BLOCK),
-            Source::Staged(table) => Some(current_block(table)),
-            _ => None,
+            Access::Read => matches!(service, Service::FullRead | Service::PartialRead),
+            Access::ReadWrite => true,
+            Access::FullWrite => matches!(service, Service::FullWrite),
+            Access::Pending => !matches!(service, Service::PartialWrite),
         }
     }
 }
@@ -65,7 +49,7 @@ pub fn table_for(number: u16, service: Service) -> Result<TableEntry, ServiceFau
     ensures inside { λ r. ⌜ made r Inside ⌝ }
 {
     let entry = find(number)?;
-    if !entry.source.allows(service) {
+    if !entry.access.allows(service) {
         return Err(ServiceFault::NoSuchUse);
     }
     Ok(entry)

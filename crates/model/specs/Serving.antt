@@ -28,7 +28,6 @@ use Rattle.pending.specs.Triggers.{planOf}
 use Rattle.directory.specs.declared.entry.Source.{Source}
 use Rattle.directory.specs.declared.entry.TableEntry.{TableEntry}
 use Rattle.directory.specs.Geometry.{pendingBlock}
-use Rattle.directory.specs.Tables.{blockOf}
 use Rattle.head.specs.declared.head.Head.{Head}
 use Rattle.head.specs.Heads.{decodeHead}
 use Rattle.model.specs.States.{Meter, Going, Recorded, Response, begun, ended, setRow, onHead, onBlocks}
@@ -60,7 +59,7 @@ putIn (Some n) from bytes bs = stored bs n (patch from bytes (contentOf bs n))
 
 -- An accepted write is noted with the number that was written, after the write.
 abbrev pub writeDone : Meter → TableEntry → ℕ → List ℕ → Going
-writeDone m t from bytes = noted (m .clock) (TableWritten (t .number)) (onBlocks (putIn (blockOf (t .source)) from bytes) (begun (m .blocks)))
+writeDone m t from bytes = noted (m .clock) (TableWritten (t .number)) (onBlocks (putIn (t .block) from bytes) (begun (m .blocks)))
 
 -- A staging: the row waits for its trigger, and the new table stands in its block.
 abbrev pub rowFor : Option (Plan × Due) → Row
