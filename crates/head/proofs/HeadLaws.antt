@@ -21,10 +21,10 @@ use Rattle.records.specs.declared.registers.Registers.{Registers}
 use Rattle.records.specs.declared.status.Status.{Status}
 use Rattle.head.specs.Layout.{logSizes}
 use Rattle.records.specs.Statuses.{statusByte}
-use Rattle.records.specs.Layouts.{registerBytes, registersAt}
+use Rattle.records.specs.Layouts.{registerBytes, registersAt, RegistersFit}
 use Rattle.head.specs.Pieces.{rowBytes, rowOf, logBytes, logOf, activationBytes, activationOf, statusOf}
 use Rattle.head.specs.Heads.{rowsFrom, logsFrom, activationFrom, registersFrom, statusFrom, decodeHead, encodeAs, encodeHead}
-use Rattle.head.specs.Order.{allZero, rowInOrder, logInOrder, activationInOrder, rowsInOrder, logsInOrder, restInOrder, inOrderAs, inOrder, LogFormed, LogsFormed, RowsFormed, RegistersFit, WellFormed}
+use Rattle.head.specs.Order.{allZero, rowInOrder, logInOrder, activationInOrder, rowsInOrder, logsInOrder, restInOrder, inOrderAs, inOrder, LogFormed, LogsFormed, RowsFormed, WellFormed}
 use Rattle.head.specs.Laws.{Laws}
 use Rattle.head.proofs.Writing.{three-same, both-same, all-same, length-rowBytes, length-logBytes, length-activationBytes, length-registerBytes}
 use Rattle.head.proofs.Bytes.{Small, word-2-back, all-zero}

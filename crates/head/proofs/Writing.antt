@@ -53,10 +53,6 @@ pub activation-written : (a : Activation) (h : ℕ) (four : List ℕ) → h ≡ 
 unfolding activationBytes
 activation-written a h four e f = ap (λ n. activationList n four) e ∙ ap (λ l. activationList (cond (a .happened) 1 0) l) f
 
-pub registers-written : (r : Registers) → patch 16 (leBytes 4 (r .tier4)) (patch 12 (leBytes 4 (r .tier3)) (patch 8 (leBytes 4 (r .tier2)) (patch 4 (leBytes 4 (r .tier1)) (patch 0 (leBytes 4 (r .total)) (replicate 20 0))))) ≡ registerBytes r
-unfolding patch fiveWords
-registers-written r = refl
-
 -- three pieces of one length, one behind another
 pub three-written : (at n : ℕ) (x y z old : List ℕ) → length x ≡ n → length y ≡ n → length z ≡ n → at + n + n + n ≤ length old → patch (at + n + n) z (patch (at + n) y (patch at x old)) ≡ patch at (x ++ (y ++ (z ++ []))) old
 three-written at n x y z old p q r fits =

@@ -15,7 +15,7 @@ use Rattle.pending.specs.Triggers.{secondAgrees, planOf}
 use Rattle.pending.specs.Rows.{isRowFormed}
 use Rattle.head.specs.declared.head.Head.{Head}
 use Rattle.logs.specs.declared.head.LogHead.{LogHead}
-use Rattle.records.specs.declared.registers.Registers.{Registers}
+use Rattle.records.specs.Layouts.{RegistersFit}
 use Rattle.head.specs.Layout.{layoutNumber, rowCount, rowLength, logLength, logSizes, activationLength, rowsPlace, logsPlace, activationPlace, statusPlace, restPlace, restLength}
 use Rattle.head.specs.Pieces.{planPart, logOf}
 
@@ -78,13 +78,6 @@ LogsFormed (size ∷ sizes) (l ∷ ls) = LogFormed size l × LogsFormed sizes ls
 abbrev pub RowsFormed : List Row → Type 0
 RowsFormed [] = Unit {0}
 RowsFormed (r ∷ rs) = (isRowFormed r ≡ true) × RowsFormed rs
-
-pub record RegistersFit (r : Registers) : Type 0 where
-  pub total : r .total < 4294967296
-  pub tier1 : r .tier1 < 4294967296
-  pub tier2 : r .tier2 < 4294967296
-  pub tier3 : r .tier3 < 4294967296
-  pub tier4 : r .tier4 < 4294967296
 
 pub record WellFormed (h : Head) : Type 0 where
   pub three : length (h .rows) ≡ rowCount
