@@ -1,1 +1,8 @@
+pub mod Outcomes
 pub mod Refusing
+pub mod Keeping
+pub mod Activating
+pub mod StayingSound
+pub mod Admitting
+pub mod Ordering
+pub mod ServingSound

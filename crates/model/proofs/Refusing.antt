@@ -23,9 +23,7 @@ use Rattle.model.specs.Requests.{Deed}
 use Rattle.model.specs.Serving.{answered, admitted, servedIf, performed}
 use Rattle.model.specs.Laws.{RefusalsLeave, BuffersLeft}
 use Prim.Native.Nat.{_+_}
-
-never : {X E : Type 0} {x : X} {e : E} → _≡_ {A = Result X E} (Ok x) (Err e) → ⊥
-never h = let z : _≡_ {A = ℕ} 0 1 = cc in omega arith
+use Rattle.model.proofs.Outcomes.{never}
 
 format-if : (v : Result (Unit {0}) MemoryFault) (bs : List Block) (e : MemoryFault) → formatIf v bs .answer ≡ Err e → formatIf v bs .blocks ≡ bs
 format-if (Ok x) bs e h = absurd (never h)

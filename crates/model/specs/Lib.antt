@@ -7,3 +7,4 @@ pub mod Procedures
 pub mod Requests
 pub mod Serving
 pub mod Laws
+pub mod Soundness
