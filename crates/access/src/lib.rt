@@ -1,4 +1,6 @@
 // Reads and writes that cannot fail, in a memory that was found ready for a meter.
+#![tactic(auto)]
+
 ghost use Rattle.std.specs.Prelude.{◌≡◌, ◌<◌, length, OnOk};
 ghost use Rattle.access.specs.Ready.{needed, Ready, content_of, stored, ready_verdict, size_verdict};
 

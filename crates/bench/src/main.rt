@@ -1,4 +1,6 @@
 // The bench: a script of commands goes in on standard input, a transcript of what took place comes out on standard output.
+#![tactic(auto)]
+
 use session::session::Session;
 use std::alloc::Global;
 use std::io;

@@ -1,4 +1,6 @@
 // The clock: seconds since 2000-01-01 00:00:00, and the date-times of the years 2000 to 2099.
+#![tactic(auto)]
+
 ghost use Rattle.std.specs.Prelude.{◌≡◌, ℕ, ◌+◌, ◌*◌, ◌/◌, ◌%◌, ◌<◌, ◌≤◌, IfSome, if◌then◌else◌, MatchBool};
 ghost use Rattle.std.specs.Option.{SomeIff};
 ghost use Rattle.calendar.specs.Calendar.{seconds_in_all, weekday_of, leap_year, month_length, before_month, before_year, day_of, second_of, RealDay, Real, is_real, second_if_real, Names, DateOf, date_of, date_if_in_range, bytes_of, of_bytes};

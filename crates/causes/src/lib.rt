@@ -1,4 +1,6 @@
 // What stands of every refusal of the plain meter: what it leaves, and which cause it tells; and what a procedure leaves besides what it was called for.
+#![tactic(auto)]
+
 ghost use Rattle.std.specs.Prelude.{◌≡◌};
 ghost use Rattle.causes.specs.Answering.{ProceduresAnswer};
 ghost use Rattle.causes.specs.Leaving.{answer_room, RefusedLeaves};

@@ -1,4 +1,6 @@
 // What the calls of the plain meter alter, and what they leave.
+#![tactic(auto)]
+
 ghost use Rattle.std.specs.Prelude.{◌≡◌};
 ghost use Rattle.access.specs.Ready.{needed};
 ghost use Rattle.effects.specs.Alters.{Alters, WaitingLeft, BehindLeft, AsMany};

@@ -1,4 +1,6 @@
 // Stagings and their fates. They are definitions, in specs/, which the ledger of a life is made of; here is what stands of them.
+#![tactic(auto)]
+
 ghost use Rattle.std.specs.Prelude.{◌≡◌, length};
 ghost use Rattle.pending.specs.Tables.{all_tables};
 ghost use Rattle.fates.specs.Fates.{FateLaws};

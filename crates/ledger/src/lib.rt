@@ -1,4 +1,6 @@
 // The ledger of a meter's life, and the law of lives. They are definitions, in specs/; here is what stands of them.
+#![tactic(auto)]
+
 ghost use Rattle.std.specs.Prelude.{◌≡◌, ◌+◌};
 ghost use Rattle.model.specs.Calls.{log_limit};
 ghost use Rattle.ledger.specs.Statement.{EveryLife};

@@ -1,4 +1,6 @@
 // Memory in blocks of 510 bytes, and two images that keep it in a slice of bytes.
+#![tactic(auto)]
+
 pub mod bare;
 pub mod checked;
 mod checksum;

@@ -6,4 +6,5 @@ pub mod Calls
 pub mod Procedures
 pub mod Requests
 pub mod Serving
+pub mod Laws
 pub mod Soundness

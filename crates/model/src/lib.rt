@@ -1,16 +1,23 @@
 // The plain meter. It is definitions, in specs/, which the contracts of the calls cite; here is what stands of all of them.
+#![tactic(auto)]
+
 ghost use Rattle.std.specs.Prelude.{◌≡◌};
 ghost use Rattle.model.specs.Calls.{log_limit};
+ghost use Rattle.model.specs.Laws.{RefusalsLeave, BuffersLeft};
 ghost use Rattle.model.specs.Soundness.{StaysSound};
 
-// Does nothing: its contract says that the plain meter stays sound.
+// Does nothing: its contract has the laws of the plain meter.
 fn laws_stand()
-    ensures { StaysSound }
+    ensures refusals { RefusalsLeave }
+    ensures buffers { BuffersLeft }
+    ensures sound { StaysSound }
 {}
 
 // The most that a log may have recorded when a call begins.
 pub fn log_limit() -> u32
     ensures value { result ≡ log_limit }
+    ensures refusals { RefusalsLeave }
+    ensures buffers { BuffersLeft }
     ensures sound { StaysSound }
 {
     laws_stand();

@@ -1,4 +1,6 @@
 // The names that the service knows by numbers.
+#![tactic(auto)]
+
 pub mod log;
 pub mod procedure;
 pub mod service;

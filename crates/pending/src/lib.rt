@@ -1,4 +1,6 @@
 // Staged tables: which tables can wait, for what, and the row in which one waits.
+#![tactic(auto)]
+
 pub mod plan;
 pub mod row;
 pub mod table;

@@ -1,4 +1,6 @@
 // The records that a meter's logs keep: events, self-reads and intervals.
+#![tactic(auto)]
+
 pub mod event;
 pub mod history;
 pub mod interval;

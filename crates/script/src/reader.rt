@@ -1,14 +1,21 @@
 // A line of a script, read as a command.
-ghost use Rattle.std.specs.Prelude.{◌≡◌, vec_items};
-ghost use Rattle.lines.specs.Parts.{Meets};
-ghost use Rattle.script.specs.Lines.{make_said, keyword_said};
-ghost use Rattle.script.specs.Commands.{said_of, some_bytes_said, image_said, poke_said, write_said, second_said, command_said};
+ghost use Rattle.std.specs.Prelude.{◌≡◌, ℕ, List};
+ghost use Rattle.std.specs.Str.{bytes_eq};
+ghost use Rattle.script.specs.Lines.{make_said, keyword_said, byte_said, rested};
+ghost use Rattle.script.specs.Commands.{Meets, BytesMeet, bytes_said, some_bytes_said, image_said, poke_said, write_said, second_said, command_said};
 
 use crate::command::{Command, ImageCommand, Keyword, Make};
+use crate::complaint::Complaint;
+use crate::parse::{end, last_number, number, word};
 use calendar::DateTime;
-use lines::complaint::Complaint;
-use lines::parts::{byte, bytes, end, is_word, last_number, number, word};
 use std::alloc::Global;
+use text::hex::read_hex;
+
+fn is_word(word: &[u8], name: &[u8]) -> bool
+    ensures { result ≡ bytes_eq word.now name.now }
+{
+    word == name
+}
 
 fn make_of(word: &[u8]) -> Result<Make, Complaint>
     ensures { result ≡ make_said word.now }
@@ -46,10 +53,17 @@ fn keyword_of(word: &[u8]) -> Result<Keyword, Complaint>
     }
 }
 
-fn some_bytes(heap: Global, line: &[u8]) -> Result<Vec<u8>, Complaint>
-    ensures { Meets vec_items result (some_bytes_said line.now) }
+fn read_bytes(heap: Global, line: &[u8]) -> Result<Vec<u8>, Complaint>
+    ensures { BytesMeet result (bytes_said line.now) }
 {
-    let bytes = bytes(heap, line)?;
+    let bytes = read_hex(heap, line)?;
+    Ok(bytes)
+}
+
+fn some_bytes(heap: Global, line: &[u8]) -> Result<Vec<u8>, Complaint>
+    ensures { BytesMeet result (some_bytes_said line.now) }
+{
+    let bytes = read_bytes(heap, line)?;
     if bytes.is_empty() {
         return Err(Complaint::NoBytes);
     }
@@ -57,7 +71,7 @@ fn some_bytes(heap: Global, line: &[u8]) -> Result<Vec<u8>, Complaint>
 }
 
 fn read_image(line: &[u8]) -> Result<Command, Complaint>
-    ensures { Meets said_of result (image_said line.now) }
+    ensures { Meets result (image_said line.now) }
 {
     let (name, rest) = word(line)?;
     let make = make_of(name)?;
@@ -66,7 +80,7 @@ fn read_image(line: &[u8]) -> Result<Command, Complaint>
 }
 
 fn read_poke(heap: Global, line: &[u8]) -> Result<Command, Complaint>
-    ensures { Meets said_of result (poke_said line.now) }
+    ensures { Meets result (poke_said line.now) }
 {
     let (offset, rest) = number(line, u32::MAX)?;
     let bytes = some_bytes(heap, rest)?;
@@ -74,15 +88,22 @@ fn read_poke(heap: Global, line: &[u8]) -> Result<Command, Complaint>
 }
 
 fn read_write(heap: Global, line: &[u8]) -> Result<Command, Complaint>
-    ensures { Meets said_of result (write_said line.now) }
+    ensures { Meets result (write_said line.now) }
 {
     let (block, rest) = number(line, u32::MAX)?;
-    let bytes = bytes(heap, rest)?;
+    let bytes = read_bytes(heap, rest)?;
     Ok(Command::On(ImageCommand::Write(block, bytes)))
 }
 
+fn byte(line: &[u8]) -> Result<(u8, &[u8]), Complaint>
+    ensures { rested (λ n. n) result ≡ byte_said line.now }
+{
+    let (value, rest) = number(line, 255)?;
+    Ok((value as u8, rest))
+}
+
 fn read_second(line: &[u8]) -> Result<Command, Complaint>
-    ensures { Meets said_of result (second_said line.now) }
+    ensures { Meets result (second_said line.now) }
 {
     let (year, rest) = byte(line)?;
     let (month, rest) = byte(rest)?;
@@ -103,7 +124,7 @@ fn read_second(line: &[u8]) -> Result<Command, Complaint>
 
 // The command that a line asks for.
 pub fn read_command(heap: Global, line: &[u8]) -> Result<Command, Complaint>
-    ensures { Meets said_of result (command_said line.now) }
+    ensures { Meets result (command_said line.now) }
 {
     let (name, rest) = word(line)?;
     match keyword_of(name)? {

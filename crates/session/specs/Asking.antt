@@ -10,10 +10,10 @@ use Rattle.text.specs.Digests.{digest_of}
 use Rattle.script.specs.declared.answer.Answer.{Answer}
 use Rattle.script.specs.declared.answer.Answer.TheVariants.{Image, Poked, Write, Block, Unsound, Digest, Second, Moment}
 use Rattle.script.specs.declared.command.Make.{Make}
-use Rattle.lines.specs.declared.complaint.Complaint.{Complaint}
-use Rattle.lines.specs.declared.complaint.Complaint.TheVariants.{NoImage, OutsideImage, TooManyBytes, Number}
+use Rattle.script.specs.declared.complaint.Complaint.{Complaint}
+use Rattle.script.specs.declared.complaint.Complaint.TheVariants.{NoImage, OutsideImage, TooManyBytes, Number}
 use Rattle.text.specs.declared.number.NumberFault.TheVariants.{TooLarge}
-use Rattle.script.specs.Commands.{Asked, Said, poke, write, unsound, block, digest, image, on, second, moment}
+use Rattle.script.specs.Commands.{Asked, Said, poke, write, unsound, block, digest, image, on, second, moment, short_of_memory}
 use Rattle.session.specs.Images.{size_of, blocks_of, written_to, content_from, content_read}
 
 -- The answer to what is asked of an image, and the image's bytes then.

@@ -1,4 +1,6 @@
 // The steps of which a meter's calls are made.
+#![tactic(auto)]
+
 pub mod clock;
 pub mod ends;
 pub mod energy;

@@ -1,4 +1,6 @@
 // The tables of a meter as bytes: any part of any table, read into a buffer or answered.
+#![tactic(auto)]
+
 mod copy;
 pub mod read;
 pub mod response;

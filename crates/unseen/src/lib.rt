@@ -1,4 +1,6 @@
 // What no answer of a meter depends on, and what every call leaves as it is.
+#![tactic(auto)]
+
 ghost use Rattle.std.specs.Prelude.{◌≡◌};
 ghost use Rattle.access.specs.Ready.{needed};
 ghost use Rattle.unseen.specs.Unseen.{AnswersAlike, KeepsItsOwn, UnseenIsFree};

@@ -1,4 +1,6 @@
 // The worked examples. They are proved as one statement over the definitions, and one of them is run.
+#![tactic(auto)]
+
 ghost use Rattle.std.specs.Prelude.{◌≡◌, Some};
 ghost use Rattle.worked.specs.Examples.{Worked};
 ghost use Rattle.worked.specs.Life.{WorkedLife};

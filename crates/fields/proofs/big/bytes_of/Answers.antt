@@ -5,5 +5,5 @@ use Rattle.fields.proofs.big.bytes_of.Goals as goal
 
 pub returns : goal.returns
 returns c =
-    let whole = c.to-be-bytes.ensures ∙ four_bytes_big c.args.value in
+    let whole = c.to_be_bytes.ensures ∙ four_bytes_big c.args.value in
     record { bytes = whole; back = ap be_value whole ∙ le_value_bytes 4 c.args.value (omega arith) }

@@ -5,5 +5,5 @@ use Rattle.fields.proofs.little.bytes_of.Goals as goal
 
 pub returns : goal.returns
 returns c =
-    let whole = c.to-le-bytes.ensures ∙ four_bytes c.args.value in
+    let whole = c.to_le_bytes.ensures ∙ four_bytes c.args.value in
     record { bytes = whole; back = ap le_value whole ∙ le_value_bytes 4 c.args.value (omega arith) }

@@ -9,6 +9,6 @@ returns c =
     let span : c.args.at + length new - c.args.at ≡ length new = omega arith in
     let put = patch_from_put c.args.at (length new) new c.args.bytes.now refl in
     record {
-      patched = rw (span, c.copy-from-slice.ensures.after) put;
-      replaces = rw (span, c.copy-from-slice.ensures.after, put) (replaces c.args.at new c.args.bytes.now c.requires);
+      patched = rw (span, c.copy_from_slice.ensures.after) put;
+      replaces = rw (span, c.copy_from_slice.ensures.after, put) (replaces c.args.at new c.args.bytes.now c.requires);
     }
