@@ -1,4 +1,5 @@
 pub mod Outcomes
+pub mod Refusing
 pub mod Keeping
 pub mod Places
 pub mod FoundTables

@@ -32,7 +32,7 @@ impl PendingTable {
     // Its place in directory order, from 0.
     pub fn index(self) -> usize
         ensures value { result ≡ table_index self }
-        ensures* listed { do ⌜ slice_index_or (← (⟦PendingTable::ALL⟧).entry) result self ≡ self ⌝ }
+        ensures listed { slice_index_or PendingTable.ALL result self ≡ self }
     {
         match self {
             PendingTable::Calendar => 0,

@@ -19,7 +19,7 @@ pub trait Refusal {
         ensures { result ≡ causeOf self.now };
 
     fn place(&self) -> u32
-        ensures { result ≡ place_of self.now };
+        ensures { result ≡ placeOf self.now };
 
     fn layer(&self) -> Layer
         ensures { result ≡ layer_of (causeOf self.now) }

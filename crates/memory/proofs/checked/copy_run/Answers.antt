@@ -9,8 +9,8 @@ returns-then-not-fits c =
     let at = checked_corrupt c.args.bytes.now c.args.block c.requires.inside c.if-not-fits.ensures in
     record { answer = sym (ap (sound_verdict c.args.block) at); content = sym (ap (content_or c.args.content.now) at) }
 
-pub slice-bounds-copy-from-slice-end : goal.slice-bounds-copy-from-slice-end
-slice-bounds-copy-from-slice-end c = omega (arith, checked_count c.args.bytes.now, c.requires.inside)
+pub slice_bounds-copy_from_slice-end : goal.slice_bounds-copy_from_slice-end
+slice_bounds-copy_from_slice-end c = omega (arith, checked_count c.args.bytes.now, c.requires.inside)
 
 pub returns : goal.returns
 returns c =
@@ -18,5 +18,5 @@ returns c =
     let span : c.args.block * 512 + 510 - c.args.block * 512 ≡ 510 = omega arith in
     record {
       answer = sym (ap (sound_verdict c.args.block) at);
-      content = rw span at c.copy-from-slice.ensures.after ∙ sym (ap (content_or c.args.content.now) at);
+      content = rw span at c.copy_from_slice.ensures.after ∙ sym (ap (content_or c.args.content.now) at);
     }

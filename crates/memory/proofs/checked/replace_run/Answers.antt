@@ -6,14 +6,14 @@ use Rattle.memory.specs.Checksum.{checksum_of}
 use Rattle.fields.proofs.Places.{patch_more}
 use Rattle.memory.proofs.checked.replace_run.Goals as goal
 
-pub put-bytes-requires : goal.put-bytes-requires
-put-bytes-requires c = omega (arith, checked_count c.args.bytes.now, c.requires.inside, c.requires.long)
+pub put_bytes-requires : goal.put_bytes-requires
+put_bytes-requires c = omega (arith, checked_count c.args.bytes.now, c.requires.inside, c.requires.long)
 
 pub checksum-requires : goal.checksum-requires
 checksum-requires c = record { few = omega (arith, checked_count c.args.bytes.now, c.requires.inside); long = c.requires.long }
 
 pub put16-requires : goal.put16-requires
-put16-requires c = omega (arith, checked_count c.args.bytes.now, c.requires.inside, c.put-bytes.ensures.replaces.long)
+put16-requires c = omega (arith, checked_count c.args.bytes.now, c.requires.inside, c.put_bytes.ensures.replaces.long)
 
 pub returns : goal.returns
 returns c =

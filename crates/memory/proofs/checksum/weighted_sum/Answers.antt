@@ -7,8 +7,8 @@ use Rattle.memory.proofs.checksum.weighted_sum.Goals as goal
 small : (c : goal.After-from) → (c.loop-i.i + 1) * c.from.result ≤ 510 * 255
 small c = mul-le-mul {n₂ = 510} {m₂ = 255} (omega arith) (omega arith)
 
-pub overflow-add-sum-in-loop-i : goal.overflow-add-sum-in-loop-i
-overflow-add-sum-in-loop-i c = omega (arith, small c)
+pub overflow_add-sum-in-loop-i : goal.overflow_add-sum-in-loop-i
+overflow_add-sum-in-loop-i c = omega (arith, small c)
 
 pub loop-i-preserved : goal.loop-i-preserved
 loop-i-preserved c =

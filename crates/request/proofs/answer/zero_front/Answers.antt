@@ -9,4 +9,4 @@ unfolding zeroed
 returns c =
     let span : c.args.count - 0 ≡ c.args.count = omega arith in
     let zeros = take-replicate {X = ℕ} c.args.count 510 0 c.requires.few in
-    rw span at c.put-front.ensures ∙ ap (λ z. overlay z c.args.bytes.now) zeros
+    rw span at c.put_front.ensures ∙ ap (λ z. overlay z c.args.bytes.now) zeros

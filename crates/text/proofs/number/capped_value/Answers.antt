@@ -4,15 +4,15 @@ use Rattle.text.specs.Numerals.{all_digits, value_after, value_of}
 use Rattle.text.proofs.Reading.{digits_stop, digits_more, capped_more}
 use Rattle.text.proofs.number.capped_value.Goals as goal
 
-pub returns-then-not-is-ascii-digit : goal.returns-then-not-is-ascii-digit
-returns-then-not-is-ascii-digit c =
-    let stop = digits_stop c.args.word.now c.loop-byte.byte-index c.loop-byte-test.true (sym c.if-not-is-ascii-digit.ensures.value) in
+pub returns-then-not-is_ascii_digit : goal.returns-then-not-is_ascii_digit
+returns-then-not-is_ascii_digit c =
+    let stop = digits_stop c.args.word.now c.loop-byte.byte-index c.loop-byte-test.true (sym c.if-not-is_ascii_digit.ensures.value) in
     let bad : all_digits c.args.word.now ≡ false = sym c.loop-byte.invariant.1 ∙ stop in
     rw bad
 
 pub loop-byte-preserved : goal.loop-byte-preserved
 loop-byte-preserved c =
-    let more = digits_more c.args.word.now c.loop-byte.byte-index c.loop-byte-test.true (sym c.if-not-is-ascii-digit.ensures.value) in
+    let more = digits_more c.args.word.now c.loop-byte.byte-index c.loop-byte-test.true (sym c.if-not-is_ascii_digit.ensures.value) in
     let next = capped_more c.args.word.now c.loop-byte.byte-index c.loop-byte-test.true c.args.limit c.loop-byte.value in
     (omega arith, sym more ∙ c.loop-byte.invariant.1, cc)
 

@@ -2,9 +2,9 @@ use Rattle.std.proofs.Common.{rules}
 use Rattle.text.specs.Numerals.{number_read}
 use Rattle.text.proofs.number.read_up_to.Goals as goal
 
-pub returns-then-is-empty : goal.returns-then-is-empty
+pub returns-then-is_empty : goal.returns-then-is_empty
 unfolding number_read
-returns-then-is-empty c = search rules
+returns-then-is_empty c = search rules
 
 pub returns-in-None : goal.returns-in-None
 unfolding number_read

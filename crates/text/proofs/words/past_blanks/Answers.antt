@@ -7,10 +7,10 @@ pub returns : goal.returns
 unfolding past_blanks
 returns c =
     let line = c.args.line.now in
-    let back : c.split-at.result.1.now ≡ past_blanks line = c.split-at.ensures.back ∙ ap (λ (n : ℕ). drop n line) c.run-length.ensures.value in
+    let back : c.split_at.result.1.now ≡ past_blanks line = c.split_at.ensures.back ∙ ap (λ (n : ℕ). drop n line) c.run_length.ensures.value in
     record {
       value = back;
       solid = rw back (lead_past blank line);
       words = ap (λ (l : List ℕ). words_of l) back ∙ words_past line;
-      bound = omega (arith, c.split-at.ensures.back_len);
+      bound = omega (arith, c.split_at.ensures.back_len);
     }

@@ -8,15 +8,15 @@ pub loop-count-preserved : goal.loop-count-preserved
 loop-count-preserved c =
     let bytes = c.args.bytes.now in
     let i = c.loop-count.count in
-    let same : of_kind c.args.blanks (get_or bytes i 0) ≡ true = kind_is c.args.blanks c.is-blank.result (get_or bytes i 0) c.is-blank.ensures ∙ c.if-is-blank-blanks.true in
+    let same : of_kind c.args.blanks (get_or bytes i 0) ≡ true = kind_is c.args.blanks c.is_blank.result (get_or bytes i 0) c.is_blank.ensures ∙ c.if-is_blank-blanks.true in
     let step = prefix_len-drop_yes (of_kind c.args.blanks) bytes i 0 c.loop-count-test.true same in
     (omega arith, omega (arith, step, c.loop-count.invariant.1))
 
-pub returns-else-is-blank-blanks : goal.returns-else-is-blank-blanks
-returns-else-is-blank-blanks c =
+pub returns-else-is_blank-blanks : goal.returns-else-is_blank-blanks
+returns-else-is_blank-blanks c =
     let bytes = c.args.bytes.now in
     let i = c.loop-count.count in
-    let other : of_kind c.args.blanks (get_or bytes i 0) ≡ false = kind_is c.args.blanks c.is-blank.result (get_or bytes i 0) c.is-blank.ensures ∙ c.if-is-blank-blanks.false in
+    let other : of_kind c.args.blanks (get_or bytes i 0) ≡ false = kind_is c.args.blanks c.is_blank.result (get_or bytes i 0) c.is_blank.ensures ∙ c.if-is_blank-blanks.false in
     let stop = prefix_len-drop_no (of_kind c.args.blanks) bytes i 0 c.loop-count-test.true other in
     record { value = omega (arith, stop, c.loop-count.invariant.1); bound = omega arith }
 

@@ -6,8 +6,8 @@ use Rattle.session.proofs.held.HeldImage.size.Goals as goal
 pub returns : goal.returns
 returns c =
     let make = c.args.self.now.make in
-    let lent = c.as-mut-slice.ensures.value in
-    let back = with_items_is c.args.self.now.bytes c.size.new.bytes (omega (arith, c.as-mut-slice.ensures.len)) in
+    let lent = c.as_mut_slice.ensures.value in
+    let back = with_items_is c.args.self.now.bytes c.size.new.bytes (omega (arith, c.as_mut_slice.ensures.len)) in
     record {
       value = c.size.ensures.value ∙ ap (λ (bytes : List ℕ). size_of make bytes) lent;
       same = ap (λ (bytes : List ℕ). (make, bytes)) (back ∙ c.size.ensures.same ∙ lent);
