@@ -37,6 +37,9 @@ LEMS = {
 # A constructor and a field of the code, which are told apart by where they stand.
 APART = {"self_read"}
 
+# Fields of records, which stand behind a dot: they share the name of a definition.
+FIELDS = {"self-reads", "power-up", "time-changed", "self-read-taken"}
+
 
 def snake(name):
     name = re.sub(r"(?<=[a-z0-9])[A-Z]", lambda m: "_" + m[0].lower(), name)
@@ -46,7 +49,7 @@ def snake(name):
 def spelled(names):
     """The new spelling of each name: a lemma that would get its definition's name is a lem."""
     defined = {snake(n) for n in names if "-" not in n}
-    return {n: snake(n) + ("_lem" if "-" in n and snake(n) in defined else "") for n in names}
+    return {n: snake(n) + ("_lem" if "-" in n and n not in FIELDS and snake(n) in defined else "") for n in names}
 
 
 def files(root):
@@ -158,7 +161,8 @@ def main(argv):
     bad = []
     by_new, spelling = {}, spelled(names)
     for old in names:
-        by_new.setdefault(spelling[old], []).append(old)
+        if old not in FIELDS:
+            by_new.setdefault(spelling[old], []).append(old)
     for new, olds in sorted(by_new.items()):
         if len(olds) > 1:
             bad.append(f"{new}: from {', '.join(sorted(olds))}")

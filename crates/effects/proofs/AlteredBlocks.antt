@@ -59,7 +59,7 @@ apart_from k h =
     let f = unlisted k 9 (10 ∷ 11 ∷ []) e.1 in
     let g = unlisted k 10 (11 ∷ []) f.1 in
     let i = unlisted k 11 [] g.1 in
-    (a.0, record { calendar = b.0; outputs = c.0; override = d.0; history = e.0; history' = f.0; self_reads_lem = g.0; self_reads' = i.0 })
+    (a.0, record { calendar = b.0; outputs = c.0; override = d.0; history = e.0; history' = f.0; self_reads = g.0; self_reads' = i.0 })
 
 past : (k n count : ℕ) → has k (range_with_len n count) ≡ false → n ≤ k → n + count ≤ k
 past k n zero h from = omega arith

@@ -57,7 +57,7 @@ pub record Apart (k : ℕ) : Type 0 where
   pub override : k ≢ 4
   pub history : k ≢ 8
   pub history' : k ≢ 9
-  pub self_reads_lem : k ≢ 10
+  pub self_reads : k ≢ 10
   pub self_reads' : k ≢ 11
 
 module _ (k : ℕ) (apart : Apart k) where
@@ -71,7 +71,7 @@ module _ (k : ℕ) (apart : Apart k) where
   self_read_entered : (bytes : List ℕ) (r : Recorded) (g : Going) → Left k g (entered SelfReads bytes r g)
   unfolding entered
   self_read_entered bytes r g = record {
-    block = unfold put_slot in left_stored g.blocks _ k _ (in_self_reads (log_of SelfReads g.head).total k apart.self_reads_lem apart.self_reads');
+    block = unfold put_slot in left_stored g.blocks _ k _ (in_self_reads (log_of SelfReads g.head).total k apart.self_reads apart.self_reads');
     profile = get_or-set_other g.head.logs 1 2 _ empty_head (λ e. omega arith);
   }
 

@@ -158,7 +158,7 @@ life_stands bs whole enough cs =
           let all = shown ∙ now.view ∙ ap (run (said_of (format bs).blocks)) is in
           fate_laws.in_time (said_of (format bs).blocks) before clock t p second (sym (ap (λ (m : Memory). m.rows t) all) ∙ row) due;
       history = history_stands (pasts_of l) (head_in bs') bs' formed fits.logs;
-      self_reads_lem = self_reads_stand (pasts_of l) (head_in bs') bs' formed fits.logs;
+      self_reads = self_reads_stand (pasts_of l) (head_in bs') bs' formed fits.logs;
       profile = profile_stands (pasts_of l) (head_in bs') bs' formed fits.logs;
       totals = λ name. ap (λ (x : LogHead). x.total) (counts name) ∙ sym (total_shown_lem (log_place name) (log name) bs' (total_fits (head_in bs') name formed));
       helds = λ name. ap (λ (x : LogHead). x.held) (counts name) ∙ sym (held_shown_lem (log_place name) (log name) bs' (held_fits (head_in bs') name formed));

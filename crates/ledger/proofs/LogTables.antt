@@ -117,7 +117,7 @@ module _ (p : Pasts) (h : Head) (bs : List Block) (formed : WellFormed h) (t : T
   history_stands = log_stands event_record_of history_log (log_of History h) bs p.history history_fits t.history (omega arith) (total_fits h History formed)
 
   pub self_reads_stand : LogStands 24 26 self_read_of (log_table self_read_log (log_of SelfReads h) bs) p.self_reads
-  self_reads_stand = log_stands self_read_of self_read_log (log_of SelfReads h) bs p.self_reads self_reads_fit t.self_reads_lem (omega arith) (total_fits h SelfReads formed)
+  self_reads_stand = log_stands self_read_of self_read_log (log_of SelfReads h) bs p.self_reads self_reads_fit t.self_reads (omega arith) (total_fits h SelfReads formed)
 
   pub profile_stands : LogStands 672 11 interval_of (log_table load_profile_log (log_of LoadProfile h) bs) p.profile
   profile_stands = log_stands interval_of load_profile_log (log_of LoadProfile h) bs p.profile profile_fits t.profile (omega arith) (total_fits h LoadProfile formed)

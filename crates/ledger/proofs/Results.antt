@@ -81,7 +81,7 @@ clock_judged p = go (is_real (of_bytes p))
 module _ (bs : List Block) (l : Ledger) (fits : Fits bs l) where
   unread_held : (name : LogName) → (log_of name (head_in bs)).unread ≡ unread_of l (log_number name)
   unread_held History = fits.logs.history.matches.unread
-  unread_held SelfReads = fits.logs.self_reads_lem.matches.unread
+  unread_held SelfReads = fits.logs.self_reads.matches.unread
   unread_held LoadProfile = fits.logs.profile.matches.unread
 
   list_named : (name : LogName) → is_list (log_number name) ≡ true

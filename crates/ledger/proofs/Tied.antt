@@ -39,7 +39,7 @@ pub record Pasts : Type 0 where
 
 pub record TiedAll (p : Pasts) (h : Head) (bs : List Block) : Type 0 where
   pub history : TiedLog event_record_of history_log (log_of History h) bs p.history
-  pub self_reads_lem : TiedLog self_read_of self_read_log (log_of SelfReads h) bs p.self_reads
+  pub self_reads : TiedLog self_read_of self_read_log (log_of SelfReads h) bs p.self_reads
   pub profile : TiedLog interval_of load_profile_log (log_of LoadProfile h) bs p.profile
 
 abbrev pub entered_all : List Recorded → Pasts → Pasts
@@ -124,7 +124,7 @@ event_entered p r h bs fits three t =
     let below : slot < 102 = omega arith in
     record {
       history = here h.logs 0 _ (omega arith) (history_done (log_of History h) bs p.history (appending r) fits t.history);
-      self_reads_lem = elsewhere h.logs 1 0 _ (λ e. omega arith) (put_apart self_read_of self_read_log _ _ history_log slot (event_record_bytes r) bs (omega arith) history_fits below (event_long r) (λ i j a b e. omega arith) t.self_reads_lem);
+      self_reads = elsewhere h.logs 1 0 _ (λ e. omega arith) (put_apart self_read_of self_read_log _ _ history_log slot (event_record_bytes r) bs (omega arith) history_fits below (event_long r) (λ i j a b e. omega arith) t.self_reads);
       profile = elsewhere h.logs 2 0 _ (λ e. omega arith) (put_apart interval_of load_profile_log _ _ history_log slot (event_record_bytes r) bs (omega arith) history_fits below (event_long r) (λ i j a b e. omega arith) t.profile);
     }
 
@@ -135,7 +135,7 @@ self_read_entered p r h bs fits three t =
     let below : slot < 24 = omega arith in
     record {
       history = elsewhere h.logs 0 1 _ (λ e. omega arith) (put_apart event_record_of history_log _ _ self_read_log slot (self_read_bytes r) bs (omega arith) self_reads_fit below (self_read_long r) (λ i j a b e. omega arith) t.history);
-      self_reads_lem = here h.logs 1 _ (omega arith) (self_reads_done (log_of SelfReads h) bs p.self_reads (appending r) fits t.self_reads_lem);
+      self_reads = here h.logs 1 _ (omega arith) (self_reads_done (log_of SelfReads h) bs p.self_reads (appending r) fits t.self_reads);
       profile = elsewhere h.logs 2 1 _ (λ e. omega arith) (put_apart interval_of load_profile_log _ _ self_read_log slot (self_read_bytes r) bs (omega arith) self_reads_fit below (self_read_long r) (λ i j a b e. omega arith) t.profile);
     }
 
@@ -146,7 +146,7 @@ interval_entered p r h bs fits three t =
     let below : slot < 672 = omega arith in
     record {
       history = elsewhere h.logs 0 2 _ (λ e. omega arith) (put_apart event_record_of history_log _ _ load_profile_log slot (interval_bytes r) bs (omega arith) profile_fits below (interval_long r) (λ i j a b e. omega arith) t.history);
-      self_reads_lem = elsewhere h.logs 1 2 _ (λ e. omega arith) (put_apart self_read_of self_read_log _ _ load_profile_log slot (interval_bytes r) bs (omega arith) profile_fits below (interval_long r) (λ i j a b e. omega arith) t.self_reads_lem);
+      self_reads = elsewhere h.logs 1 2 _ (λ e. omega arith) (put_apart self_read_of self_read_log _ _ load_profile_log slot (interval_bytes r) bs (omega arith) profile_fits below (interval_long r) (λ i j a b e. omega arith) t.self_reads);
       profile = here h.logs 2 _ (omega arith) (profile_done (log_of LoadProfile h) bs p.profile (appending r) fits t.profile);
     }
 
@@ -170,7 +170,7 @@ tied_interval base r g fits three t = goes_on base g.entries (interval r) _ _ (i
 pub tied_head : (base : Pasts) (f : Head → Head) (g : Going) → (f g.head).logs ≡ g.head.logs → Tied base g → Tied base (on_head f g)
 tied_head base f g same t = record {
   history = subst (λ (ls : List LogHead). TiedLog event_record_of history_log (get_or ls 0 empty_head) g.blocks (entered event_in g.entries base.history)) (sym same) t.history;
-  self_reads_lem = subst (λ (ls : List LogHead). TiedLog self_read_of self_read_log (get_or ls 1 empty_head) g.blocks (entered self_read_in g.entries base.self_reads)) (sym same) t.self_reads_lem;
+  self_reads = subst (λ (ls : List LogHead). TiedLog self_read_of self_read_log (get_or ls 1 empty_head) g.blocks (entered self_read_in g.entries base.self_reads)) (sym same) t.self_reads;
   profile = subst (λ (ls : List LogHead). TiedLog interval_of load_profile_log (get_or ls 2 empty_head) g.blocks (entered interval_in g.entries base.profile)) (sym same) t.profile;
 }
 
@@ -185,6 +185,6 @@ below_logs parsed log h bs past k content some low long t =
 pub all_below : (p : Pasts) (h : Head) (bs : List Block) (k : ℕ) (content : List ℕ) → k < 8 → length content ≡ 510 → TiedAll p h bs → TiedAll p h (stored bs k content)
 all_below p h bs k content low long t = record {
   history = below_logs event_record_of history_log _ bs _ k content (omega arith) low long t.history;
-  self_reads_lem = below_logs self_read_of self_read_log _ bs _ k content (omega arith) (omega arith) long t.self_reads_lem;
+  self_reads = below_logs self_read_of self_read_log _ bs _ k content (omega arith) (omega arith) long t.self_reads;
   profile = below_logs interval_of load_profile_log _ bs _ k content (omega arith) (omega arith) long t.profile;
 }

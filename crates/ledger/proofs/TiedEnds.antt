@@ -47,6 +47,6 @@ fresh_tied bs room whole =
     let image = format_sound bs room whole in
     record {
       history = rw (fresh_log bs History) (empty_tied event_record_of history_log (formatted bs) image.ready image.whole);
-      self_reads_lem = rw (fresh_log bs SelfReads) (empty_tied self_read_of self_read_log (formatted bs) image.ready image.whole);
+      self_reads = rw (fresh_log bs SelfReads) (empty_tied self_read_of self_read_log (formatted bs) image.ready image.whole);
       profile = rw (fresh_log bs LoadProfile) (empty_tied interval_of load_profile_log (formatted bs) image.ready image.whole);
     }

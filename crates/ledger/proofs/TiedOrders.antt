@@ -51,27 +51,27 @@ module _ (p : Pasts) (l : LogHead) (h : Head) (bs : List Block) (three : length 
   history_set : (past : List (Deed EventRecord)) → TiedLog event_record_of history_log l bs past → TiedAll (record { history = past; self_reads = p.self_reads; profile = p.profile }) (set_log History l h) bs
   history_set past new = record {
     history = here h.logs 0 l (omega arith) new;
-    self_reads_lem = elsewhere h.logs 1 0 l (λ e. omega arith) t.self_reads_lem;
+    self_reads = elsewhere h.logs 1 0 l (λ e. omega arith) t.self_reads;
     profile = elsewhere h.logs 2 0 l (λ e. omega arith) t.profile;
   }
 
   self_reads_set : (past : List (Deed SelfRead)) → TiedLog self_read_of self_read_log l bs past → TiedAll (record { history = p.history; self_reads = past; profile = p.profile }) (set_log SelfReads l h) bs
   self_reads_set past new = record {
     history = elsewhere h.logs 0 1 l (λ e. omega arith) t.history;
-    self_reads_lem = here h.logs 1 l (omega arith) new;
+    self_reads = here h.logs 1 l (omega arith) new;
     profile = elsewhere h.logs 2 1 l (λ e. omega arith) t.profile;
   }
 
   profile_set : (past : List (Deed Interval)) → TiedLog interval_of load_profile_log l bs past → TiedAll (record { history = p.history; self_reads = p.self_reads; profile = past }) (set_log LoadProfile l h) bs
   profile_set past new = record {
     history = elsewhere h.logs 0 2 l (λ e. omega arith) t.history;
-    self_reads_lem = elsewhere h.logs 1 2 l (λ e. omega arith) t.self_reads_lem;
+    self_reads = elsewhere h.logs 1 2 l (λ e. omega arith) t.self_reads;
     profile = here h.logs 2 l (omega arith) new;
   }
 
 log_cleared : (p : Pasts) (name : LogName) (h : Head) (bs : List Block) → length h.logs ≡ 3 → TiedAll p h bs → TiedAll (cleared_in name p) (set_log name (cleared (log_of name h)) h) bs
 log_cleared p History h bs three t = history_set p _ h bs three t _ (history_done (log_of History h) bs p.history clearing tt t.history)
-log_cleared p SelfReads h bs three t = self_reads_set p _ h bs three t _ (self_reads_done (log_of SelfReads h) bs p.self_reads clearing tt t.self_reads_lem)
+log_cleared p SelfReads h bs three t = self_reads_set p _ h bs three t _ (self_reads_done (log_of SelfReads h) bs p.self_reads clearing tt t.self_reads)
 log_cleared p LoadProfile h bs three t = profile_set p _ h bs three t _ (profile_done (log_of LoadProfile h) bs p.profile clearing tt t.profile)
 
 logs_cleared_lem : (p : Pasts) (names : List LogName) (h : Head) (bs : List Block) → length h.logs ≡ 3 → TiedAll p h bs → TiedAll (all_cleared names p) (logs_cleared names h) bs
@@ -82,7 +82,7 @@ logs_cleared_lem p (name ∷ names) h bs three t =
 log_read : (p : Pasts) (name : LogName) (n : ℕ) (h : Head) (bs : List Block) → length h.logs ≡ 3 → n ≤ (log_of name h).unread → TiedAll p h bs →
     TiedAll (read_in name n p) (set_log name (acknowledged n (log_of name h)) h) bs
 log_read p History n h bs three few t = history_set p _ h bs three t _ (history_done (log_of History h) bs p.history (acknowledging n) few t.history)
-log_read p SelfReads n h bs three few t = self_reads_set p _ h bs three t _ (self_reads_done (log_of SelfReads h) bs p.self_reads (acknowledging n) few t.self_reads_lem)
+log_read p SelfReads n h bs three few t = self_reads_set p _ h bs three t _ (self_reads_done (log_of SelfReads h) bs p.self_reads (acknowledging n) few t.self_reads)
 log_read p LoadProfile n h bs three few t = profile_set p _ h bs three t _ (profile_done (log_of LoadProfile h) bs p.profile (acknowledging n) few t.profile)
 
 -- the heads stay three and the registers as they were

@@ -191,7 +191,7 @@ pub record Stands (bs : List Block) (cs : List Call) : Type 0 where
       (memory_of (memory_after bs cs)).rows t ≡ waiting p → p.due ≡ At second → clock < second
   -- each log's account balances, by the bytes of its table
   pub history : LogStands 102 10 event_record_of (table_of History (memory_after bs cs)) (ledger_after bs cs).history
-  pub self_reads_lem : LogStands 24 26 self_read_of (table_of SelfReads (memory_after bs cs)) (ledger_after bs cs).self_reads
+  pub self_reads : LogStands 24 26 self_read_of (table_of SelfReads (memory_after bs cs)) (ledger_after bs cs).self_reads
   pub profile : LogStands 672 11 interval_of (table_of LoadProfile (memory_after bs cs)) (ledger_after bs cs).profile
   -- block 0 has the counts that the tables show
   pub totals : (name : LogName) → word 4 0 (counts_in name (content_of (memory_after bs cs) 0)) ≡ total_shown (table_of name (memory_after bs cs))

@@ -15,13 +15,13 @@ working h bs = record { head = h; blocks = bs; entries = [] }
 -- No log has recorded more than a limit.
 pub record Totals (limit : ℕ) (h : Head) : Type 0 where
   pub history : (log_of History h).total ≤ limit
-  pub self_reads_lem : (log_of SelfReads h).total ≤ limit
+  pub self_reads : (log_of SelfReads h).total ≤ limit
   pub load_profile : (log_of LoadProfile h).total ≤ limit
 
 -- No log has recorded more than so many entries since.
 pub record Grows (n : ℕ) (h h' : Head) : Type 0 where
   pub history : (log_of History h').total ≤ (log_of History h).total + n
-  pub self_reads_lem : (log_of SelfReads h').total ≤ (log_of SelfReads h).total + n
+  pub self_reads : (log_of SelfReads h').total ≤ (log_of SelfReads h).total + n
   pub load_profile : (log_of LoadProfile h').total ≤ (log_of LoadProfile h).total + n
 
 -- Whether anything was recorded.

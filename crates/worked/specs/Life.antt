@@ -68,9 +68,9 @@ pub record WorkedLife : Type 0 where
   pub total : total_shown (table_of History (memory_after memory whole)) ≡ 9
   pub unread : unread_shown (table_of History (memory_after memory whole)) ≡ 1
   -- the bytes of the six events, on 2024-02-29 at 12:30:05
-  pub power_up_lem : event_record_bytes (record { at = dated 24 2 29 12 30 5; event = PowerUp }) ≡ 24 ∷ 2 ∷ 29 ∷ 12 ∷ 30 ∷ 5 ∷ 1 ∷ 0 ∷ 0 ∷ 0 ∷ []
-  pub time_changed_lem : event_record_bytes (record { at = dated 24 2 29 12 30 5; event = TimeChanged }) ≡ 24 ∷ 2 ∷ 29 ∷ 12 ∷ 30 ∷ 5 ∷ 2 ∷ 0 ∷ 0 ∷ 0 ∷ []
+  pub power_up : event_record_bytes (record { at = dated 24 2 29 12 30 5; event = PowerUp }) ≡ 24 ∷ 2 ∷ 29 ∷ 12 ∷ 30 ∷ 5 ∷ 1 ∷ 0 ∷ 0 ∷ 0 ∷ []
+  pub time_changed : event_record_bytes (record { at = dated 24 2 29 12 30 5; event = TimeChanged }) ≡ 24 ∷ 2 ∷ 29 ∷ 12 ∷ 30 ∷ 5 ∷ 2 ∷ 0 ∷ 0 ∷ 0 ∷ []
   pub table_written : event_record_bytes (record { at = dated 24 2 29 12 30 5; event = TableWritten 6191 }) ≡ 24 ∷ 2 ∷ 29 ∷ 12 ∷ 30 ∷ 5 ∷ 3 ∷ 0 ∷ 0x2F ∷ 0x18 ∷ []
   pub procedure_invoked : event_record_bytes (record { at = dated 24 2 29 12 30 5; event = ProcedureInvoked 15 }) ≡ 24 ∷ 2 ∷ 29 ∷ 12 ∷ 30 ∷ 5 ∷ 4 ∷ 0 ∷ 15 ∷ 0 ∷ []
   pub activated : event_record_bytes (record { at = dated 24 2 29 12 30 5; event = PendingActivated 2095 }) ≡ 24 ∷ 2 ∷ 29 ∷ 12 ∷ 30 ∷ 5 ∷ 5 ∷ 0 ∷ 0x2F ∷ 0x08 ∷ []
-  pub self_read_taken_lem : event_record_bytes (record { at = dated 24 2 29 12 30 5; event = SelfReadTaken }) ≡ 24 ∷ 2 ∷ 29 ∷ 12 ∷ 30 ∷ 5 ∷ 6 ∷ 0 ∷ 0 ∷ 0 ∷ []
+  pub self_read_taken : event_record_bytes (record { at = dated 24 2 29 12 30 5; event = SelfReadTaken }) ≡ 24 ∷ 2 ∷ 29 ∷ 12 ∷ 30 ∷ 5 ∷ 6 ∷ 0 ∷ 0 ∷ 0 ∷ []

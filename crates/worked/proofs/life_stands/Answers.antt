@@ -31,10 +31,10 @@ returns c = record {
   overwritten = refl;
   total = refl;
   unread = refl;
-  power_up_lem = refl;
-  time_changed_lem = refl;
+  power_up = refl;
+  time_changed = refl;
   table_written = refl;
   procedure_invoked = refl;
   activated = refl;
-  self_read_taken_lem = refl;
+  self_read_taken = refl;
 }

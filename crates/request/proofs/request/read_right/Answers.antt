@@ -7,11 +7,11 @@ use Rattle.request.proofs.request.read_right.Goals as goal
 pub returns : goal.returns
 returns c =
     let bytes = c.args.bytes.now in
-    let is = c.by_service_lem.ensures in
+    let is = c.by_service.ensures in
     record {
       equation = is;
       right = record {
         sent = λ a fits e. is ∙ (ap ask_in e ∙ sent_read a fits);
-        only = λ a e. read_sent bytes a (λ i. omega (arith, c.type-inv.bytes i)) (sym is ∙ e);
+        only = λ a e. read_sent bytes a (λ i. omega (arith, c.type_inv.bytes i)) (sym is ∙ e);
       };
     }

@@ -16,5 +16,5 @@ returns g c =
       head = all.head;
       blocks = all.blocks;
       ready = two.ready;
-      counts = record { history = omega arith; self_reads_lem = omega arith; load_profile = omega arith };
+      counts = record { history = omega arith; self_reads = omega arith; load_profile = omega arith };
     }

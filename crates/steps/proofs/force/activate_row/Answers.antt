@@ -17,7 +17,7 @@ returns-in-Empty g c =
       blocks = ap (λ (x : Going). x.blocks) same;
       any = ap (λ (x : Going). any_of x.entries) same;
       ready = c.requires.ready;
-      counts = record { history = omega arith; self_reads_lem = omega arith; load_profile = omega arith };
+      counts = record { history = omega arith; self_reads = omega arith; load_profile = omega arith };
     }
 
 pub returns-in-Waiting : goal.returns-in-Waiting
