@@ -1,8 +1,8 @@
 -- What is read of a ready memory, and that a write keeps it ready.
-use Rattle.std.proofs.Common.{◌≡◌, ℕ, zero, suc, ◌+◌, ◌<◌, ◌≤◌, cond, ltb, List, [], ◌∷◌, length, get_or, take, set, Some, None, sym, refl, ap, ◌∙◌, arith}
+use Rattle.std.proofs.Common.{◌≡◌, ℕ, zero, suc, ◌+◌, ◌<◌, List, [], ◌∷◌, length, get_or, take, set, None, refl, ap, ◌∙◌, arith}
 use Rattle.std.proofs.lemmas.List.{length-set}
 use Rattle.std.proofs.lemmas.Bool.{lt-ltb, cond-true}
-use Rattle.memory.specs.Blocks.{Block, sound, corrupt, content_or, corrupt_from, lowest_corrupt, WholeBlock, Whole}
+use Rattle.memory.specs.Blocks.{Block, sound, corrupt, content_or, corrupt_from, WholeBlock, Whole}
 use Rattle.memory.specs.Verdicts.{read_content, written}
 use Rattle.access.specs.Ready.{needed, Ready, content_of, stored}
 

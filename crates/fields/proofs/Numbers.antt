@@ -1,7 +1,7 @@
 -- A number by its bytes, and back.
-use Rattle.std.proofs.Common.{◌≡◌, ℕ, zero, suc, ◌+◌, ◌*◌, ◌/◌, ◌%◌, ◌^◌, ◌<◌, ◌≤◌, List, [], ◌∷◌, reverse, length, get_or, take, drop, refl, ap, ◌∙◌, pow-suc, arith}
+use Rattle.std.proofs.Common.{◌≡◌, ℕ, zero, suc, ◌+◌, ◌*◌, ◌/◌, ◌%◌, ◌^◌, ◌<◌, ◌≤◌, List, [], ◌∷◌, length, get_or, take, refl, ap, ◌∙◌, pow-suc, arith}
 use Rattle.std.proofs.lemmas.List.{drop_more}
-use Rattle.fields.specs.Words.{part, le_value, le_bytes, be_value, be_bytes, word, big_word}
+use Rattle.fields.specs.Words.{part, le_value, le_bytes, be_bytes}
 
 pub length_le_bytes : (w v : ℕ) → length (le_bytes w v) ≡ w
 length_le_bytes zero v = refl

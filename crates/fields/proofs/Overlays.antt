@@ -1,5 +1,5 @@
 -- New bytes at the front of a list, written piece by piece.
-use Rattle.std.proofs.Common.{◌≡◌, ℕ, zero, suc, ◌+◌, ◌-◌, ◌<◌, ◌≤◌, List, [], ◌∷◌, ◌++◌, length, take, drop, sym, refl, ap, ◌∙◌, zero-add, arith}
+use Rattle.std.proofs.Common.{◌≡◌, ℕ, ◌+◌, List, ◌++◌, length, take, drop, sym, ap, ◌∙◌, zero-add}
 use Rattle.std.proofs.lemmas.List.{drop-drop, drop_at, take_at, length-append, append_assoc}
 use Rattle.fields.specs.Patches.{patch, overlay}
 

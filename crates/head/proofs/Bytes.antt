@@ -1,7 +1,7 @@
 -- Numbers and zeros in bytes.
-use Rattle.std.proofs.Common.{◌≡◌, ℕ, suc, ◌+◌, ◌*◌, ◌/◌, ◌%◌, ◌<◌, ◌≤◌, true, eqb, List, [], ◌∷◌, length, get_or, replicate, sym, refl, ap, ◌∙◌, arith}
+use Rattle.std.proofs.Common.{◌≡◌, ℕ, suc, ◌+◌, ◌*◌, ◌/◌, ◌%◌, ◌<◌, ◌≤◌, true, eqb, List, [], ◌∷◌, length, get_or, replicate, refl, ap, ◌∙◌, arith}
 use Rattle.std.proofs.lemmas.Bool.{eqb-true, and_parts}
-use Rattle.fields.specs.Words.{part, le_value, le_bytes, word}
+use Rattle.fields.specs.Words.{le_value, le_bytes, word}
 use Rattle.fields.proofs.Numbers.{part_2, part_4}
 use Rattle.head.specs.Order.{all_zero}
 

@@ -1,13 +1,11 @@
 -- Block 0 and what it says, both ways.
-use Rattle.std.proofs.Common.{◌≡◌, ℕ, ◌+◌, ◌<◌, ◌≤◌, Bool, true, ◌&&◌, eqb, ltb, List, [], ◌∷◌, ◌++◌, length, get_or, take, drop, replicate, sym, refl, ap, ◌∙◌, subst, arith}
-use Rattle.std.specs.List.{flat_map}
+use Rattle.std.proofs.Common.{◌≡◌, ℕ, ◌+◌, ◌<◌, Bool, true, ◌&&◌, eqb, ltb, List, [], ◌∷◌, ◌++◌, length, get_or, take, drop, replicate, sym, refl, ap, ◌∙◌, arith}
 use Rattle.std.proofs.lemmas.List.{append_assoc, length-append, length-drop, length-replicate, take_all, append-nil, get_or-take, get_or-drop, drop_more}
-use Rattle.std.proofs.lemmas.Bool.{and_parts, and_from, eqb-true, ltb-true}
+use Rattle.std.proofs.lemmas.Bool.{and_parts, eqb-true, ltb-true}
 use Rattle.fields.specs.Words.{part, le_value, le_bytes, word}
 use Rattle.fields.proofs.Numbers.{part_2}
 use Rattle.calendar.specs.Calendar.{seconds_in_all}
 use Rattle.pending.specs.declared.row.Row.{Row}
-use Rattle.pending.specs.Rows.{is_row_formed}
 use Rattle.head.specs.declared.head.Activation.{Activation}
 use Rattle.head.specs.declared.head.Head.{Head}
 use Rattle.logs.specs.declared.head.LogHead.{LogHead}
@@ -18,7 +16,7 @@ use Rattle.records.specs.Statuses.{status_byte}
 use Rattle.records.specs.Layouts.{register_bytes, registers_at, RegistersFit}
 use Rattle.head.specs.Pieces.{row_bytes, row_of, log_bytes, log_of, activation_bytes, activation_of, status_of}
 use Rattle.head.specs.Heads.{rows_from, logs_from, activation_from, registers_from, status_from, decode_head, encode_as, encode_head}
-use Rattle.head.specs.Order.{all_zero, row_in_order, log_in_order, activation_in_order, rows_in_order, logs_in_order, rest_in_order, in_order_as, in_order, LogFormed, LogsFormed, RowsFormed, WellFormed}
+use Rattle.head.specs.Order.{all_zero, row_in_order, log_in_order, activation_in_order, rows_in_order, logs_in_order, rest_in_order, in_order_as, in_order, LogsFormed, RowsFormed, WellFormed}
 use Rattle.head.specs.Laws.{Laws}
 use Rattle.head.proofs.Writing.{three_same, both_same, all_same, length_row_bytes, length_log_bytes, length_activation_bytes, length_register_bytes}
 use Rattle.head.proofs.Bytes.{Small, word_2_back, all_zero_lem}

@@ -1,13 +1,11 @@
 -- A checked image's blocks.
-use Rattle.std.proofs.Common.{◌≡◌, ℕ, zero, suc, ◌+◌, ◌*◌, ◌^◌, ◌<◌, ◌≤◌, Bool, true, false, cond, eqb, ◌⊎◌, List, ◌++◌, map, length, get_or, take, set, sym, refl, ap, ◌∙◌, arith}
-use Rattle.std.proofs.lemmas.List.{length-append}
+use Rattle.std.proofs.Common.{◌≡◌, ℕ, ◌+◌, ◌*◌, ◌<◌, ◌≤◌, Bool, true, false, eqb, List, length, get_or, set, sym, refl, ◌∙◌, arith}
 use Rattle.std.proofs.lemmas.Bool.{eq-eqb, cond-true, cond-false}
-use Rattle.fields.specs.Words.{part, word, le_bytes}
+use Rattle.fields.specs.Words.{le_bytes}
 use Rattle.fields.specs.Patches.{patch}
-use Rattle.fields.proofs.Numbers.{length_le_bytes}
 use Rattle.fields.proofs.Places.{length_patch, part_patch_same, part_patch_other, word_patch_same, word_patch_other}
-use Rattle.memory.specs.Blocks.{Block, sound, corrupt}
-use Rattle.memory.specs.Checksum.{checksum_of, weighted}
+use Rattle.memory.specs.Blocks.{sound, corrupt}
+use Rattle.memory.specs.Checksum.{checksum_of}
 use Rattle.memory.specs.Images.{block_count, checked_block, checked_blocks, content_at, stored_checksum}
 use Rattle.memory.proofs.ImageBlocks.{count_is, block_is, blocks_set}
 

@@ -1,11 +1,10 @@
 -- The row in which a staged table waits.
-use Rattle.std.specs.Prelude.{ℕ, ◌+◌, ◌≤◌, Bool, true, false, ◌&&◌, List, [], ◌∷◌, replicate, nat_le}
+use Rattle.std.specs.Prelude.{ℕ, ◌+◌, ◌≤◌, Bool, true, false, ◌&&◌, List, [], ◌∷◌, nat_le}
 use Rattle.calendar.specs.Calendar.{second_of, dated}
 use Rattle.pending.specs.declared.trigger.Trigger.{Trigger}
 use Rattle.pending.specs.declared.trigger.Trigger.TheVariants.{Absolute, Relative, OnCommand}
 use Rattle.pending.specs.declared.trigger.Due.{Due}
 use Rattle.pending.specs.declared.trigger.Due.TheVariants.{At, ByCommand}
-use Rattle.pending.specs.declared.plan.Plan.{Plan}
 use Rattle.pending.specs.declared.row.Row.{Row}
 use Rattle.pending.specs.declared.row.Row.TheVariants.{Empty, Waiting}
 use Rattle.pending.specs.Triggers.{is_well_formed, second_agrees, span_of, plan_bytes}

@@ -1,5 +1,5 @@
 -- What the parts of a line say.
-use Rattle.std.specs.Prelude.{ℕ, Bool, cond, List, is_some, Ok, Err, codes, Result}
+use Rattle.std.specs.Prelude.{ℕ, cond, List, is_some, Ok, Err, codes, Result}
 use Rattle.std.specs.Borrow.{Bor}
 use Rattle.std.specs.Option.{ok_or}
 use Rattle.std.specs.Str.{bytes_eq}

@@ -1,20 +1,16 @@
 -- What is answered to what is asked of an image, and the image then.
-use Rattle.std.specs.Prelude.{◌≡◌, ℕ, ◌+◌, ◌/◌, Bool, true, false, cond, List, length, replicate, Some, None, Ok, Err, Option, Result, nat_lt}
-use Rattle.std.specs.Option.{option_map}
-use Rattle.calendar.specs.declared.DateTime.{DateTime}
-use Rattle.calendar.specs.Calendar.{second_if_real, date_if_in_range, weekday_of}
+use Rattle.std.specs.Prelude.{ℕ, ◌+◌, cond, List, length, Ok, Err, Result, nat_lt}
 use Rattle.fields.specs.Patches.{patch}
 use Rattle.memory.specs.Blocks.{lowest_corrupt}
 use Rattle.memory.specs.Verdicts.{write_verdict}
 use Rattle.text.specs.Digests.{digest_of}
 use Rattle.script.specs.declared.answer.Answer.{Answer}
-use Rattle.script.specs.declared.answer.Answer.TheVariants.{Image, Poked, Write, Block, Unsound, Digest, Second, Moment}
+use Rattle.script.specs.declared.answer.Answer.TheVariants.{Poked, Write, Block, Unsound, Digest}
 use Rattle.script.specs.declared.command.Make.{Make}
 use Rattle.script.specs.declared.complaint.Complaint.{Complaint}
-use Rattle.script.specs.declared.complaint.Complaint.TheVariants.{NoImage, OutsideImage, TooManyBytes, Number}
-use Rattle.text.specs.declared.number.NumberFault.TheVariants.{TooLarge}
-use Rattle.script.specs.Commands.{Asked, Said, poke, write, unsound, block, digest, image, on, second, moment, short_of_memory}
-use Rattle.session.specs.Images.{size_of, blocks_of, written_to, content_from, content_read}
+use Rattle.script.specs.declared.complaint.Complaint.TheVariants.{OutsideImage, TooManyBytes}
+use Rattle.script.specs.Commands.{Asked, poke, write, unsound, block, digest}
+use Rattle.session.specs.Images.{blocks_of, written_to, content_from, content_read}
 
 -- The answer to what is asked of an image, and the image's bytes then.
 abbrev pub answer_on : Make → List ℕ → Asked → Result Answer Complaint

@@ -1,23 +1,19 @@
 -- What a session answers to a command, and what it has then.
-use Rattle.std.specs.Prelude.{◌≡◌, ℕ, ◌+◌, ◌/◌, ◌≤◌, Bool, true, false, cond, List, length, replicate, Some, None, Ok, Err, vec_items, Option, Result, nat_lt}
+use Rattle.std.specs.Prelude.{◌≡◌, ℕ, ◌/◌, ◌≤◌, Bool, true, false, cond, List, replicate, Some, None, Ok, Err, vec_items, Option, Result, nat_lt}
 use Rattle.std.specs.Option.{option_map}
 use Rattle.calendar.specs.declared.DateTime.{DateTime}
 use Rattle.calendar.specs.Calendar.{second_if_real, date_if_in_range, weekday_of}
-use Rattle.fields.specs.Patches.{patch}
-use Rattle.memory.specs.Blocks.{lowest_corrupt}
-use Rattle.memory.specs.Verdicts.{write_verdict}
-use Rattle.text.specs.Digests.{digest_of}
 use Rattle.script.specs.declared.answer.Answer.{Answer}
-use Rattle.script.specs.declared.answer.Answer.TheVariants.{Image, Poked, Write, Block, Unsound, Digest, Second, Moment}
+use Rattle.script.specs.declared.answer.Answer.TheVariants.{Image, Second, Moment}
 use Rattle.script.specs.declared.command.Make.{Make}
 use Rattle.script.specs.declared.complaint.Complaint.{Complaint}
-use Rattle.script.specs.declared.complaint.Complaint.TheVariants.{NoImage, OutsideImage, TooManyBytes, Number, NoMemory}
+use Rattle.script.specs.declared.complaint.Complaint.TheVariants.{NoImage, Number, NoMemory}
 use Rattle.text.specs.declared.number.NumberFault.TheVariants.{TooLarge}
-use Rattle.script.specs.Commands.{Asked, Said, poke, write, unsound, block, digest, image, on, second, moment, short_of_memory}
+use Rattle.script.specs.Commands.{Asked, Said, image, on, second, moment, short_of_memory}
 use Rattle.session.specs.declared.held.HeldImage.{HeldImage}
 use Rattle.session.specs.declared.session.Session.{Session}
 use Rattle.session.specs.declared.session.Session.TheVariants.{Empty, Cold}
-use Rattle.session.specs.Images.{size_of, blocks_of, written_to, content_from, content_read}
+use Rattle.session.specs.Images.{size_of}
 use Rattle.session.specs.Asking.{answer_on, bytes_after}
 
 -- A session has no image, or one of a make with its bytes.

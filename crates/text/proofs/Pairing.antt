@@ -3,13 +3,13 @@ use Rattle.std.proofs.Common.{◌≡◌, ℕ, ◌+◌, ◌*◌, ◌/◌, ◌%◌
 use Rattle.std.specs.List.{flat_map}
 use Rattle.std.specs.Char.{digit_value}
 use Rattle.std.specs.Int.Digits.{AllBelowBase}
-use Rattle.std.proofs.lemmas.List.{append-nil, append_assoc, flat_map_more, take_more, take_all, at_drop_more, at_drop_all}
+use Rattle.std.proofs.lemmas.List.{append-nil, append_assoc, flat_map_more, take_more, take_all, at_drop_more}
 use Rattle.std.proofs.lemmas.Bool.Decides.{nat_tests}
 use Rattle.text.specs.declared.hex.HexFault.{HexFault}
 use Rattle.text.specs.declared.hex.HexFault.TheVariants.{NotHex}
 use Rattle.text.specs.Figures.{upper_digit}
 use Rattle.text.specs.Lines.{blank}
-use Rattle.text.specs.Pairs.{solid_of, all_hex, on_first, paired, taken, whole, hex_read, pair_text, pairs_text, hex_text, BytesReadBack}
+use Rattle.text.specs.Pairs.{solid_of, all_hex, on_first, paired, taken, whole, hex_read, pair_text, pairs_text, BytesReadBack}
 
 -- what a line gives behind the bytes that are done and the digit of an open pair
 abbrev pub read_on : List ℕ → Option ℕ → List ℕ → Result (List ℕ) HexFault

@@ -1,13 +1,13 @@
 -- Digits read one by one, and a number read back.
-use Rattle.std.proofs.Common.{◌≡◌, ℕ, zero, suc, ◌+◌, ◌-◌, ◌*◌, ◌<◌, ◌≤◌, min, true, false, ◌&&◌, List, [], ◌∷◌, ◌++◌, map, length, get_or, drop, replicate, Ok, sym, refl, ap, ◌∙◌, arith}
+use Rattle.std.proofs.Common.{◌≡◌, ℕ, zero, suc, ◌+◌, ◌-◌, ◌*◌, ◌<◌, ◌≤◌, min, true, false, ◌&&◌, List, [], ◌∷◌, ◌++◌, map, length, get_or, drop, replicate, Ok, refl, ap, ◌∙◌, arith}
 use Rattle.std.specs.Char.{is_ascii_digit}
 use Rattle.std.specs.Int.Digits.{digits_of, AllBelowBase, number_from_digits_after}
 use Rattle.std.proofs.lemmas.Int.Digits.{all_below_base_digits_of, number_digits_of}
-use Rattle.std.proofs.lemmas.List.{length-append, length-map, length-replicate, at_drop_more, drop_all}
+use Rattle.std.proofs.lemmas.List.{length-append, length-map, length-replicate, at_drop_more}
 use Rattle.std.proofs.lemmas.Bool.{and_from, and_left}
 use Rattle.std.proofs.lemmas.Bool.Decides.{nat_tests}
 use Rattle.text.specs.Figures.{lower_digit, padded, digits_text}
-use Rattle.text.specs.Numerals.{all_digits, value_after, value_of, number_read, decimal_text, NumbersReadBack}
+use Rattle.text.specs.Numerals.{all_digits, value_after, value_of, number_read, NumbersReadBack}
 
 -- past the limit more digits change nothing
 pub capped_same : (limit a b : ℕ) (cs : List ℕ) → min limit a ≡ min limit b → min limit (value_after a cs) ≡ min limit (value_after b cs)

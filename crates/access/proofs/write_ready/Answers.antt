@@ -1,4 +1,4 @@
-use Rattle.std.proofs.Common.{◌≡◌, ◌∙◌}
+use Rattle.std.proofs.Common.{◌∙◌}
 use Rattle.access.proofs.Readiness.{ready_written, ready_stored}
 use Rattle.access.proofs.write_ready.Goals as goal
 

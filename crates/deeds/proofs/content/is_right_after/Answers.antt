@@ -6,5 +6,5 @@ use Rattle.deeds.proofs.content.is_right_after.Goals as goal
 pub returns : goal.returns
 returns g c =
     let table = c.args.table in
-    c.is-right.ensures
-    ∙ ap (is_right table) (left_by_write table c.args.from _ _ c.args.content.now _ _ (g.M.BlockMemory.blocks c.args.memory.now) c.staged-length.ensures c.current-block.ensures c.load.ensures.content c.put-bytes.ensures.patched c.requires.inside (omega arith))
+    c.is_right.ensures
+    ∙ ap (is_right table) (left_by_write table c.args.from _ _ c.args.content.now _ _ (g.M.BlockMemory.blocks c.args.memory.now) c.staged_length.ensures c.current_block.ensures c.load.ensures.content c.put_bytes.ensures.patched c.requires.inside (omega arith))

@@ -4,4 +4,4 @@ use Rattle.dialog.proofs.answer.write_answer_tail.Goals as goal
 
 pub returns : goal.returns
 unfolding answer_tail_after
-returns c = simp (sym c.tail-text.ensures) c.write-told.ensures
+returns c = simp (sym c.tail_text.ensures) c.write_told.ensures

@@ -4,4 +4,4 @@ use Rattle.dialog.proofs.answer.write_scratch.Goals as goal
 
 pub returns : goal.returns
 unfolding scratch_after
-returns c = simp (sym c.scratch-text.ensures) c.write-told.ensures
+returns c = simp (sym c.scratch_text.ensures) c.write_told.ensures

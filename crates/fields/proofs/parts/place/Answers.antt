@@ -1,5 +1,4 @@
 use Rattle.std.proofs.Common.{◌≡◌, ◌+◌, ◌-◌, length, refl, arith}
-use Rattle.fields.specs.Patches.{patch}
 use Rattle.fields.proofs.Places.{patch_from_put, replaces}
 use Rattle.fields.proofs.parts.place.Goals as goal
 

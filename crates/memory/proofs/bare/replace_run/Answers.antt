@@ -1,4 +1,4 @@
-use Rattle.std.proofs.Common.{◌≡◌, arith}
+use Rattle.std.proofs.Common.{arith}
 use Rattle.memory.proofs.BareBlocks.{bare_count, bare_set}
 use Rattle.memory.proofs.bare.replace_run.Goals as goal
 

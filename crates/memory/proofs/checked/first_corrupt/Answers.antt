@@ -1,8 +1,8 @@
-use Rattle.std.proofs.Common.{◌≡◌, ℕ, ◌<◌, ◌≤◌, min, List, length, get_or, take, sym, refl, ap, ◌∙◌, arith}
+use Rattle.std.proofs.Common.{◌<◌, ◌≤◌, length, take, sym, refl, ap, ◌∙◌, arith}
 use Rattle.std.proofs.lemmas.List.{length-take, get_or-take}
-use Rattle.memory.specs.Blocks.{Block, corrupt, corrupt_from}
+use Rattle.memory.specs.Blocks.{corrupt, corrupt_from}
 use Rattle.memory.specs.Images.{checked_blocks}
-use Rattle.memory.proofs.CheckedBlocks.{checked_count, checked_sound, checked_corrupt}
+use Rattle.memory.proofs.CheckedBlocks.{checked_sound, checked_corrupt}
 use Rattle.memory.proofs.CorruptSearch.{passes_sound, finds_corrupt, finds_none, take_within}
 use Rattle.memory.proofs.checked.first_corrupt.Goals as goal
 

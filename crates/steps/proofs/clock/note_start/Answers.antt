@@ -5,7 +5,7 @@ use Rattle.steps.proofs.clock.note_start.Goals as goal
 pub returns : goal.returns
 returns g c =
     let one = c.note.ensures in
-    let two = c.change-time.ensures in
+    let two = c.change_time.ensures in
     let all =
     powered_on c.args.second c.args.head.now (g.M.BlockMemory.blocks c.args.memory.now)
     (record { head = one.head; blocks = one.blocks; any = refl })

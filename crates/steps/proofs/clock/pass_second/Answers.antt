@@ -10,15 +10,15 @@ pub returns : goal.returns
 returns g c =
     let second = c.args.second in
     let start = working c.args.head.now (g.M.BlockMemory.blocks c.args.memory.now) in
-    let one = c.change-time-activated.ensures in
-    let two = c.read-if-scheduled-scheduled.ensures in
-    let three = c.read-interval-interval.ensures in
+    let one = c.change_time-activated.ensures in
+    let two = c.read_if_scheduled-scheduled.ensures in
+    let three = c.read_interval-interval.ensures in
     let all =
     ticked_on second start.head start.blocks
     (record { head = one.head; blocks = one.blocks; any = one.any })
     (record { head = two.head; blocks = two.blocks; any = two.any })
     (record { head = three.head; blocks = three.blocks; any = three.any }) in
-    let any = c.any-of-three.ensures ∙ all.any in
+    let any = c.any_of_three.ensures ∙ all.any in
     record {
       head = all.head;
       blocks = all.blocks;

@@ -8,9 +8,9 @@ use Rattle.steps.proofs.force.activate_each_due.Goals as goal
 pub returns : goal.returns
 unfolding time_changed
 returns g c =
-    let one = c.activate-due-calendar.ensures in
-    let two = c.activate-due-outputs.ensures in
-    let three = c.activate-due-override-tier.ensures in
+    let one = c.activate_due-calendar.ensures in
+    let two = c.activate_due-outputs.ensures in
+    let three = c.activate_due-override_tier.ensures in
     let all =
     three_activated (λ row. is_due row c.args.clock) c.args.clock c.args.head.now (g.M.BlockMemory.blocks c.args.memory.now)
     (record { head = one.head; blocks = one.blocks; any = one.any })
@@ -19,7 +19,7 @@ returns g c =
     record {
       head = all.head;
       blocks = all.blocks;
-      any = c.any-of-three.ensures ∙ all.any;
+      any = c.any_of_three.ensures ∙ all.any;
       ready = three.ready;
       counts = grown_on (grown_on one.counts two.counts) three.counts;
     }

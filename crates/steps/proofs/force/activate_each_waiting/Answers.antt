@@ -6,9 +6,9 @@ use Rattle.steps.proofs.force.activate_each_waiting.Goals as goal
 
 pub returns : goal.returns
 returns g c =
-    let one = c.activate-waiting-calendar.ensures in
-    let two = c.activate-waiting-outputs.ensures in
-    let three = c.activate-waiting-override-tier.ensures in
+    let one = c.activate_waiting-calendar.ensures in
+    let two = c.activate_waiting-outputs.ensures in
+    let three = c.activate_waiting-override_tier.ensures in
     let all =
     three_activated is_waiting c.args.clock c.args.head.now (g.M.BlockMemory.blocks c.args.memory.now)
     (record { head = one.head; blocks = one.blocks; any = one.any })
@@ -17,7 +17,7 @@ returns g c =
     record {
       head = all.head;
       blocks = all.blocks;
-      any = c.any-of-three.ensures ∙ all.any;
+      any = c.any_of_three.ensures ∙ all.any;
       ready = three.ready;
       counts = grown_on (grown_on one.counts two.counts) three.counts;
     }

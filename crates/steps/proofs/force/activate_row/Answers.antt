@@ -27,9 +27,9 @@ returns-in-Waiting g c =
     let row : row_of c.args.table h ≡ Waiting plan c.in-Waiting.due = search rules in
     let same = sym (row_waiting c.args.clock c.args.table (working h (g.M.BlockMemory.blocks c.args.memory.now)) plan c.in-Waiting.due row) in
     record {
-      head = c.take-force.ensures.head ∙ ap (λ (x : Going). x.head) same;
-      blocks = c.take-force.ensures.blocks ∙ ap (λ (x : Going). x.blocks) same;
+      head = c.take_force.ensures.head ∙ ap (λ (x : Going). x.head) same;
+      blocks = c.take_force.ensures.blocks ∙ ap (λ (x : Going). x.blocks) same;
       any = sym (noted_speaks _ _ _) ∙ ap (λ (x : Going). any_of x.entries) same;
-      ready = c.take-force.ensures.ready;
-      counts = c.take-force.ensures.counts;
+      ready = c.take_force.ensures.ready;
+      counts = c.take_force.ensures.counts;
     }

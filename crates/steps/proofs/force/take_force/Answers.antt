@@ -14,10 +14,10 @@ returns g c =
     let clock = c.args.clock in
     let read = read_first c.args.flag clock (working c.args.head.now (blocks c.args.memory.now)) in
     let spent = on_head (row_spent table clock) (on_blocks (brought_in table) read) in
-    let before : At c.spend-row.new.head (blocks c.bring-in.new.memory) (any_of spent.entries) spent =
+    let before : At c.spend_row.new.head (blocks c.bring_in.new.memory) (any_of spent.entries) spent =
     record {
-      head = c.spend-row.ensures.head ∙ ap (row_spent table clock) c.take-self-read-if.ensures.head;
-      blocks = c.bring-in.ensures.blocks ∙ ap (brought_in table) c.take-self-read-if.ensures.blocks;
+      head = c.spend_row.ensures.head ∙ ap (row_spent table clock) c.take_self_read_if.ensures.head;
+      blocks = c.bring_in.ensures.blocks ∙ ap (brought_in table) c.take_self_read_if.ensures.blocks;
       any = refl;
     } in
     let event = PendingActivated c.number.result in
@@ -27,5 +27,5 @@ returns g c =
       head = done.head ∙ ap (λ (x : Going). x.head) same;
       blocks = done.blocks ∙ ap (λ (x : Going). x.blocks) same;
       ready = c.note.ensures.ready;
-      counts = grown_on (grown_on c.take-self-read-if.ensures.counts c.spend-row.ensures.counts) c.note.ensures.counts;
+      counts = grown_on (grown_on c.take_self_read_if.ensures.counts c.spend_row.ensures.counts) c.note.ensures.counts;
     }

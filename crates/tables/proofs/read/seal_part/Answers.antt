@@ -12,5 +12,5 @@ returns g c =
     let n : ℕ = c.args.count in
     let sized : length (part (3 + n - 3) 3 old) ≡ n = rw (length-take, length-drop) (omega arith) in
     c.seal.ensures.bytes
-    ∙ sealed_part n c.fill-part.new.out old (omega arith) (omega arith)
-    ∙ ap (λ bytes. overlay (answer_bytes bytes) old) (c.fill-part.ensures ∙ rw sized refl)
+    ∙ sealed_part n c.fill_part.new.out old (omega arith) (omega arith)
+    ∙ ap (λ bytes. overlay (answer_bytes bytes) old) (c.fill_part.ensures ∙ rw sized refl)

@@ -4,14 +4,14 @@ use Rattle.pending.specs.declared.row.Row.TheVariants.{Empty}
 use Rattle.model.specs.Tables.{waiting_in}
 use Rattle.tables.proofs.Rows.{waiting_counted, waiting_passed}
 use Rattle.tables.proofs.views.count_waiting.Goals as goal
-use Rattle.tables.proofs.views.count_waiting.Goals.{then-is-waiting, else-is-waiting}
+use Rattle.tables.proofs.views.count_waiting.Goals.{then-is_waiting, else-is_waiting}
 
 pub loop-row-preserved : goal.loop-row-preserved
 loop-row-preserved c =
     let i : ℕ = c.loop-row.row-index in
-    elim c.if-is-waiting.branch [
-      | then-is-waiting w ↦ (omega arith, omega (arith, waiting_counted c.args.rows.now i Empty c.loop-row-test.true w.if-is-waiting.ensures))
-      | else-is-waiting w ↦ (omega arith, omega (arith, waiting_passed c.args.rows.now i Empty c.loop-row-test.true w.if-is-waiting.ensures))
+    elim c.if-is_waiting.branch [
+      | then-is_waiting w ↦ (omega arith, omega (arith, waiting_counted c.args.rows.now i Empty c.loop-row-test.true w.if-is_waiting.ensures))
+      | else-is_waiting w ↦ (omega arith, omega (arith, waiting_passed c.args.rows.now i Empty c.loop-row-test.true w.if-is_waiting.ensures))
     ]
 
 pub returns : goal.returns

@@ -6,5 +6,5 @@ use Rattle.tables.proofs.views.pending_status.Goals as goal
 pub returns : goal.returns
 returns c =
     status_written _ _ _ _ _ _ _ _ _ _ _ _ _ _ _ _ (length_activation_date c.args.head.now.activation) (length_row_shown Calendar _) (length_row_shown Outputs _) (length_row_shown Override _) refl
-    c.activation-date.ensures c.count-waiting.ensures c.row_shown.ensures c.row-shown-2.ensures c.row-shown-3.ensures
-    c.put-bytes.ensures.patched c.put8.ensures c.put-bytes-2.ensures.patched c.put-bytes-3.ensures.patched c.put-bytes-4.ensures.patched
+    c.activation_date.ensures c.count_waiting.ensures c.row_shown.ensures c.row_shown-2.ensures c.row_shown-3.ensures
+    c.put_bytes.ensures.patched c.put8.ensures c.put_bytes-2.ensures.patched c.put_bytes-3.ensures.patched c.put_bytes-4.ensures.patched

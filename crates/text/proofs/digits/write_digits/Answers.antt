@@ -1,5 +1,4 @@
-use Rattle.std.proofs.Common.{◌≡◌, ◌+◌, ◌<◌, [], ◌∷◌, length, is_ok, vec_items, sym, refl, ap, ◌∙◌, div-le_self, arith, length-append}
-use native.Mathlib.Nat.{div-lt_self}
+use Rattle.std.proofs.Common.{◌+◌, ◌<◌, [], ◌∷◌, length, vec_items, refl, ap, ◌∙◌, arith, length-append}
 use Rattle.std.proofs.lemmas.List.{with_items_is}
 use Rattle.std.proofs.lemmas.Slice.{pushed}
 use Rattle.text.proofs.Spelling.{written_more, written_all, falls}
