@@ -1,5 +1,5 @@
 -- What a procedure leaves, by the deed that it is.
-use Rattle.std.proofs.Common.{◌≡◌, ℕ, ◌≢◌, List, [], length, get_or, Some, None, Ok, Err, Option, Result, sym, refl, ap, ◌∙◌, arith}
+use Rattle.std.proofs.Common.{◌≡◌, ℕ, ◌≢◌, List, [], length, get_or, Some, None, Ok, Err, Result, sym, refl, ap, ◌∙◌}
 use Rattle.access.specs.Ready.{ready_verdict}
 use Rattle.fields.specs.Words.{word}
 use Rattle.numbers.specs.declared.procedure.ProcedureResult.{ProcedureResult}
@@ -18,7 +18,7 @@ use Rattle.model.specs.Requests.{Deed, reading, writing, staging, calling, and_t
 use Rattle.model.specs.Serving.{call_done, head_of, performed, of_meter, limited, admitted, answered, served_if}
 use Rattle.model.specs.Calls.{of_memory}
 use Rattle.model.proofs.Accepting.{then_ok}
-use Rattle.model.proofs.Outcomes.{never, missing, ok_same}
+use Rattle.model.proofs.Outcomes.{missing, ok_same}
 use Rattle.causes.specs.Answering.{ProceduresAnswer}
 
 -- a call, by what it orders

@@ -1,6 +1,5 @@
 -- What an accepted write leaves in all the tables.
 use Rattle.std.proofs.Common.{◌≡◌, ℕ, ◌+◌, ◌≤◌, true, ◌≢◌, List, length, Ok, sym, refl, ap, ◌∙◌, subst, arith}
-use Rattle.fields.specs.Words.{part}
 use Rattle.fields.specs.Patches.{patch}
 use Rattle.pending.specs.declared.table.PendingTable.{PendingTable}
 use Rattle.pending.specs.declared.table.PendingTable.TheVariants.{Calendar, Outputs, Override}

@@ -1,12 +1,11 @@
 -- A started meter that fits its ledger answers what the ledger has.
-use Rattle.std.proofs.Common.{◌≡◌, ℕ, ◌+◌, ◌<◌, ◌≤◌, Bool, true, false, cond, ◌||◌, eqb, ltb, List, [], ◌∷◌, ◌++◌, length, take, Some, None, Ok, Err, Result, sym, refl, ap, ◌∙◌, ap₂, arith}
+use Rattle.std.proofs.Common.{◌≡◌, ℕ, ◌+◌, ◌<◌, ◌≤◌, Bool, false, ◌||◌, eqb, ltb, List, [], ◌∷◌, ◌++◌, length, take, Some, None, Ok, Err, Result, sym, refl, ap, ◌∙◌, arith}
 use Rattle.std.proofs.lemmas.List.{take_all, length-take, length-append}
 use Rattle.std.proofs.lemmas.Bool.{cond-false, le-ltb, ne_eqb}
 use Rattle.access.specs.Ready.{needed, Ready, content_of, ready_verdict, clean_verdict}
-use Rattle.access.proofs.Readiness.{content_long}
 use Rattle.fields.specs.Words.{part, big_word}
 use Rattle.fields.specs.Patches.{overlay}
-use Rattle.memory.specs.Blocks.{Block, Whole}
+use Rattle.memory.specs.Blocks.{Block}
 use Rattle.numbers.specs.declared.log.LogName.{LogName}
 use Rattle.numbers.specs.declared.log.LogName.TheVariants.{History, SelfReads, LoadProfile}
 use Rattle.refusals.specs.declared.fault.ServiceFault.{ServiceFault}
@@ -18,7 +17,6 @@ use Rattle.request.specs.Asks.{table_of as tableNumbered}
 use Rattle.numbers.specs.declared.service.Service.TheVariants.{PartialRead}
 use Rattle.request.specs.Parts.{whole_part}
 use Rattle.request.proofs.Sends.{sent_read}
-use Rattle.pending.specs.declared.plan.Plan.{Plan}
 use Rattle.pending.specs.declared.row.Row.{Row}
 use Rattle.pending.specs.declared.row.Row.TheVariants.{Empty, Waiting}
 use Rattle.pending.specs.declared.table.PendingTable.{PendingTable}
@@ -26,7 +24,7 @@ use Rattle.pending.specs.declared.table.PendingTable.TheVariants.{Calendar, Outp
 use Rattle.pending.specs.declared.trigger.Trigger.{Trigger}
 use Rattle.pending.specs.declared.trigger.Trigger.TheVariants.{Absolute, Relative, OnCommand}
 use Rattle.pending.specs.Rows.{row_plan_bytes}
-use Rattle.pending.specs.Triggers.{plan_bytes, parts_of}
+use Rattle.pending.specs.Triggers.{plan_bytes}
 use Rattle.pending.specs.Tables.{table_number}
 use Rattle.directory.specs.declared.entry.Access.TheVariants as access
 use Rattle.directory.specs.declared.entry.Access.TheVariants.{Read, ReadWrite}
@@ -35,16 +33,16 @@ use Rattle.directory.specs.declared.entry.TableEntry.{TableEntry}
 use Rattle.directory.specs.declared.entry.Source.{Source}
 use Rattle.directory.specs.Tables.{entry, listed}
 use Rattle.directory.specs.Uses.{table_for}
-use Rattle.directory.specs.Geometry.{staged_length, current_block, pending_block, log_place}
+use Rattle.directory.specs.Geometry.{staged_length, current_block, pending_block}
 use Rattle.fates.specs.Stagings.{Pending, Seen, waiting_in}
 use Rattle.fates.specs.Stagings as fate
-use Rattle.model.specs.States.{Meter, row_of, log_of}
+use Rattle.model.specs.States.{Meter, row_of}
 use Rattle.model.specs.Tables.{current_table, staged_table, table_bytes}
-use Rattle.model.specs.Requests.{Deed, reading, decided, source_verdict, and_then, key_verdict, fitted}
-use Rattle.model.specs.Serving.{head_of, performed, admitted, answered, served_if, served}
+use Rattle.model.specs.Requests.{reading, decided, source_verdict, and_then, key_verdict, fitted}
+use Rattle.model.specs.Serving.{head_of, performed, admitted}
 use Rattle.ledger.specs.Ledger.{Ledger}
 use Rattle.ledger.specs.Statement.{AnswersWith, Refuses, read_table, read_pending, log_length, read_log, table_of, Answers}
-use Rattle.ledger.proofs.Seen.{seen_row, said_of}
+use Rattle.ledger.proofs.Seen.{seen_row}
 use Rattle.ledger.proofs.Fitting.{Fits}
 
 ready_passes : (bs : List Block) → Ready bs → ready_verdict bs ≡ Ok tt

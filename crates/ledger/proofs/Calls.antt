@@ -1,38 +1,35 @@
 -- Each call keeps a meter and its ledger together.
-use Rattle.std.proofs.Common.{◌≡◌, ℕ, ◌+◌, ◌%◌, ◌<◌, ◌≤◌, Bool, true, false, cond, eqb, List, [], ◌∷◌, ◌++◌, length, get_or, Ok, Err, Result, sym, refl, ap, ◌∙◌, subst, ap₂, arith}
+use Rattle.std.proofs.Common.{◌≡◌, ℕ, ◌+◌, ◌%◌, ◌<◌, ◌≤◌, cond, eqb, List, [], ◌∷◌, ◌++◌, length, get_or, Ok, Err, Result, sym, refl, ap, ◌∙◌, subst, ap₂, arith}
 use Rattle.access.specs.Ready.{content_of, ready_verdict}
 use Rattle.calendar.specs.Calendar.{seconds_in_all, date_of}
 use Rattle.memory.specs.Blocks.{Block}
 use Rattle.logs.specs.Heads.{empty_head}
 use Rattle.refusals.specs.declared.fault.MeterFault.{MeterFault}
 use Rattle.head.specs.declared.head.Head.{Head}
-use Rattle.pending.specs.declared.table.PendingTable.{PendingTable}
 use Rattle.pending.specs.declared.table.PendingTable.TheVariants.{Calendar}
 use Rattle.records.specs.declared.event.Event.TheVariants.{PowerUp}
 use Rattle.fates.specs.Stagings.{Memory, Agrees, due_by}
 use Rattle.fates.specs.Stagings as fate
 use Rattle.fates.proofs.Matching.{after_agrees}
-use Rattle.model.specs.States.{Meter, Going, begun, ended, row_of}
+use Rattle.model.specs.States.{Meter, begun, ended, row_of}
 use Rattle.model.specs.Calls.{or_else, of_memory, totals_verdict, order_verdict, image_verdict, second_verdict, start_verdict, started_if, meter_of, power_up, tick_verdict, tick_if, ticked, energy_if, feeding}
 use Rattle.model.specs.Steps.{time_changed}
 use Rattle.model.specs.Tables.{current_table}
-use Rattle.model.specs.Soundness.{SoundImage}
 use Rattle.model.proofs.Keeping.{Kept, raised}
 use Rattle.model.proofs.Activating.{power_kept, ticked_kept}
-use Rattle.model.proofs.StayingSound.{ended_head, both_pass, in_time, begun_kept, fed_formed, fed_blocks, fed_sound}
+use Rattle.model.proofs.StayingSound.{ended_head, both_pass, in_time, begun_kept, fed_formed, fed_sound}
 use Rattle.request.specs.Answers.{buffer_verdict}
 use Rattle.ledger.specs.Meanings.{Call, start, tick, energy, serve, stop, plain, Meaning, nothing, started}
 use Rattle.ledger.specs.Meanings as meaning
-use Rattle.ledger.specs.Ledger.{Ledger, marked}
-use Rattle.ledger.specs.Entries.{event, reading, interval, brings, all_activations, asks_reading}
-use Rattle.ledger.specs.Lives.{State, cold, running, Step, start_step, plain_step, step}
+use Rattle.ledger.specs.Ledger.{Ledger}
+use Rattle.ledger.specs.Entries.{event, reading, interval, asks_reading}
+use Rattle.ledger.specs.Lives.{State, cold, running, start_step, plain_step, step}
 use Rattle.ledger.specs.Statement.{head_in}
 use Rattle.ledger.proofs.Seen.{said_of}
-use Rattle.ledger.proofs.Outlines.{rows_bring, rows_account, power_outline, tick_outline}
+use Rattle.ledger.proofs.Outlines.{rows_account, power_outline, tick_outline}
 use Rattle.ledger.proofs.Growing.{tick_grown}
 use Rattle.ledger.proofs.TiedSteps.{along, ticked_along, power_along, feeding_tied}
 use Rattle.ledger.proofs.TiedEnds.{ended_tied}
-use Rattle.ledger.proofs.Views.{seen_of}
 use Rattle.ledger.proofs.ViewsForce.{table_then, ticked_seen, power_seen}
 use Rattle.ledger.proofs.ViewsImages.{ended_shows, feeding_unseen}
 use Rattle.ledger.proofs.Serves.{serve_fits}

@@ -1,27 +1,26 @@
 -- A meter that fits its ledger, and what a call leaves of that.
-use Rattle.std.proofs.Common.{◌≡◌, ℕ, ◌+◌, ◌<◌, ◌≤◌, true, false, cond, List, [], ◌∷◌, ◌++◌, map, length, get_or, sym, refl, ap, ◌∙◌, subst, append-nil, arith}
+use Rattle.std.proofs.Common.{◌≡◌, ℕ, ◌<◌, ◌≤◌, true, false, List, [], ◌∷◌, ◌++◌, map, get_or, sym, refl, ap, ◌∙◌, subst, append-nil}
 use Rattle.access.specs.Ready.{content_of}
 use Rattle.calendar.specs.Calendar.{seconds_in_all}
 use Rattle.memory.specs.Blocks.{Block}
-use Rattle.logs.specs.declared.head.LogHead.{LogHead}
 use Rattle.logs.specs.Heads.{empty_head}
 use Rattle.head.specs.declared.head.Head.{Head}
 use Rattle.fates.specs.Stagings.{Memory, run, Agrees}
 use Rattle.fates.specs.Stagings as fate
 use Rattle.fates.proofs.Matching.{stays_matched}
-use Rattle.model.specs.States.{Meter, Going, Recorded, begun, ended}
-use Rattle.model.specs.Soundness.{SoundImage, SoundMeter}
+use Rattle.model.specs.States.{Going, begun, ended}
+use Rattle.model.specs.Soundness.{SoundImage}
 use Rattle.model.proofs.Keeping.{Kept}
 use Rattle.model.specs.Calls.{ended_if_any}
 use Rattle.model.proofs.StayingSound.{ended_sound, ended_head}
-use Rattle.ledger.specs.Meanings.{has_effect, Meaning, meant, clock_after, happened, asked_of}
-use Rattle.ledger.specs.Ledger.{Fed, Ledger, marked, noted, kept, happened_by, happenings}
-use Rattle.ledger.specs.Entries.{outline_of, brings, Brings, AllBring}
+use Rattle.ledger.specs.Meanings.{has_effect, Meaning, meant, happened, asked_of}
+use Rattle.ledger.specs.Ledger.{Fed, Ledger, marked, kept, happenings}
+use Rattle.ledger.specs.Entries.{outline_of, brings, AllBring}
 use Rattle.ledger.specs.Lives.{State, cold, running, blocks_in, Step}
 use Rattle.ledger.specs.Statement.{head_in}
-use Rattle.ledger.proofs.Seen.{seen_in, said_of}
+use Rattle.ledger.proofs.Seen.{said_of}
 use Rattle.ledger.proofs.Outlines.{outlines}
-use Rattle.ledger.proofs.Tied.{Pasts, TiedAll, entered_all, Tied}
+use Rattle.ledger.proofs.Tied.{Pasts, TiedAll, Tied}
 use Rattle.ledger.proofs.TiedEnds.{ended_tied}
 use Rattle.ledger.proofs.Growing.{Grown, unchanged, grew}
 use Rattle.ledger.proofs.Views.{seen_of}

@@ -1,12 +1,11 @@
 -- From one call to every life.
-use Rattle.std.proofs.Common.{◌≡◌, ℕ, zero, suc, ◌-◌, ◌<◌, ◌≤◌, Bool, true, false, cond, ltb, List, [], ◌∷◌, ◌++◌, length, get_or, Ok, Err, Result, sym, refl, ap, ◌∙◌, subst, ap₂, append_assoc, arith}
+use Rattle.std.proofs.Common.{◌≡◌, zero, suc, ◌-◌, ◌<◌, ◌≤◌, Bool, true, false, cond, ltb, List, [], ◌∷◌, ◌++◌, length, Ok, Err, sym, refl, ap, ◌∙◌, subst, append_assoc, arith}
 use Rattle.std.proofs.lemmas.Bool.{ltb-false, le-ltb}
 use Rattle.access.specs.Ready.{needed}
 use Rattle.calendar.specs.Calendar.{seconds_in_all}
 use Rattle.memory.specs.Blocks.{Block, Whole}
 use Rattle.numbers.specs.declared.log.LogName.{LogName}
 use Rattle.numbers.specs.Names.{log_number}
-use Rattle.pending.specs.declared.table.PendingTable.{PendingTable}
 use Rattle.memory.specs.declared.fault.MemoryFault.TheVariants.{TooSmall}
 use Rattle.fields.specs.Words.{word}
 use Rattle.fields.specs.Patches.{patch}
@@ -18,20 +17,20 @@ use Rattle.fates.specs.Stagings as fate
 use Rattle.fates.specs.Fates.{Tells, Continues}
 use Rattle.fates.proofs.AllLaws.{fate_laws}
 use Rattle.fates.proofs.Running.{run_append, kept_append}
-use Rattle.model.specs.States.{Meter, log_of}
+use Rattle.model.specs.States.{log_of}
 use Rattle.model.specs.Calls.{format, format_if, formatted}
 use Rattle.model.proofs.Outcomes.{never}
 use Rattle.model.proofs.StayingSound.{formed_of}
 use Rattle.model.proofs.ServingSound.{stays_sound}
-use Rattle.ledger.specs.Meanings.{Call, has_effect, meant, happened}
-use Rattle.ledger.specs.Ledger.{Fed, Ledger, opened, noted, kept, marked, happened_by, happenings}
+use Rattle.ledger.specs.Meanings.{Call, has_effect}
+use Rattle.ledger.specs.Ledger.{Fed, Ledger, opened, noted, kept, happened_by, happenings}
 use Rattle.ledger.specs.Entries.{AllBring}
 use Rattle.ledger.specs.Results.{AllResults}
 use Rattle.ledger.proofs.Results.{step_results}
 use Rattle.ledger.specs.Lives.{State, cold, running, blocks_in, step, live, told}
 use Rattle.ledger.specs.Statement.{head_in, memory_of, AnswersIn, born, meter_after, memory_after, feed_of, ledger_after, happened_in, ClockIs, Stands, EveryLife}
 use Rattle.ledger.proofs.Seen.{said_of}
-use Rattle.ledger.proofs.Fitting.{pasts_of, Bounded, Fits, FitsState, StepFits}
+use Rattle.ledger.proofs.Fitting.{pasts_of, Bounded, Fits, FitsState}
 use Rattle.ledger.proofs.Calls.{step_fits}
 use Rattle.ledger.proofs.TiedEnds.{fresh_tied}
 use Rattle.ledger.proofs.LogTables.{total_shown_lem, held_shown_lem, unread_shown_lem, total_fits, held_fits, unread_fits, history_stands, self_reads_stand, profile_stands}

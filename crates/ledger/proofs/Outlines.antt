@@ -1,8 +1,8 @@
 -- The entries that the steps record, in outline.
-use Rattle.std.proofs.Common.{◌≡◌, ℕ, ◌+◌, ◌/◌, ◌%◌, ◌<◌, Bool, true, false, cond, ◌&&◌, ◌||◌, eqb, ◌≢◌, List, [], ◌∷◌, ◌++◌, map, get_or, set, sym, refl, ap, ◌∙◌, ap₂, append_assoc, append-nil, arith}
+use Rattle.std.proofs.Common.{◌≡◌, ℕ, ◌+◌, ◌/◌, ◌%◌, Bool, true, false, cond, ◌&&◌, eqb, List, [], ◌∷◌, ◌++◌, map, get_or, sym, refl, ap, ◌∙◌, ap₂, append_assoc, append-nil, arith}
 use Rattle.std.proofs.lemmas.List.{map-append, get_or-set_other}
-use Rattle.std.proofs.lemmas.Bool.{cases_Bool, cond_both, true≢false}
-use Rattle.calendar.specs.Calendar.{date_of, weekday_of}
+use Rattle.std.proofs.lemmas.Bool.{cond_both}
+use Rattle.calendar.specs.Calendar.{date_of}
 use Rattle.memory.specs.Blocks.{Block}
 use Rattle.records.specs.declared.event.Event.{Event}
 use Rattle.records.specs.declared.event.Event.TheVariants.{PowerUp, PendingActivated, SelfReadTaken}
@@ -12,19 +12,18 @@ use Rattle.pending.specs.declared.row.Row.TheVariants.{Empty, Waiting}
 use Rattle.pending.specs.declared.table.PendingTable.{PendingTable}
 use Rattle.pending.specs.declared.table.PendingTable.TheVariants.{Calendar, Outputs, Override}
 use Rattle.pending.specs.declared.trigger.Due.{Due}
-use Rattle.pending.specs.declared.trigger.Due.TheVariants.{At, ByCommand}
 use Rattle.pending.specs.declared.trigger.Trigger.{Trigger}
 use Rattle.pending.specs.declared.trigger.Trigger.TheVariants.{Absolute, Relative, OnCommand}
-use Rattle.pending.specs.Rows.{is_due, is_waiting}
+use Rattle.pending.specs.Rows.{is_due}
 use Rattle.pending.specs.Tables.{table_number, table_index, all_tables}
-use Rattle.pending.specs.Triggers.{kind_of, plan_bytes}
-use Rattle.fates.specs.Stagings.{Pending, same, any_due, due_by, Account, waiting_in, listed, Memory, Agrees}
-use Rattle.model.specs.States.{Going, Recorded, row_of, on_head, on_blocks}
+use Rattle.pending.specs.Triggers.{kind_of}
+use Rattle.fates.specs.Stagings.{same, due_by, Account, waiting_in, listed}
+use Rattle.model.specs.States.{Going, row_of, on_head, on_blocks}
 use Rattle.model.specs.Steps.{entered, noted, self_read_taken, interval_taken, read_first, brought_in, row_spent, took_force, activated, activated_if, each_activated, time_changed}
 use Rattle.model.specs.Calls.{power_up, ticked, scheduled_read, interval_read, mark_started}
 use Rattle.model.specs.Tables.{current_table}
 use Rattle.model.specs.Tariffs.{is_scheduled}
-use Rattle.ledger.specs.Entries.{Outline, event, self_read, interval, outline_of, reading, is_flagged, activation, activations_of, all_activations, asks_reading}
+use Rattle.ledger.specs.Entries.{Outline, event, self_read, interval, outline_of, reading, activations_of, all_activations, asks_reading}
 use Rattle.ledger.proofs.Seen.{seen_row}
 use Rattle.ledger.proofs.Views.{apart}
 use Rattle.ledger.proofs.ViewsForce.{Tests, due_tests}

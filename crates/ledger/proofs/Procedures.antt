@@ -1,5 +1,5 @@
 -- A procedure that is carried out does what its number and parameters mean.
-use Rattle.std.proofs.Common.{◌≡◌, ℕ, ◌+◌, ◌<◌, ◌≤◌, Bool, true, false, cond, eqb, ltb, List, [], ◌∷◌, ◌++◌, length, get_or, drop, Some, None, Ok, Err, Option, Result, sym, refl, ap, ◌∙◌, subst, ap₂, arith}
+use Rattle.std.proofs.Common.{◌≡◌, ℕ, ◌<◌, false, eqb, ltb, List, [], ◌∷◌, ◌++◌, length, get_or, Some, None, Ok, Err, Option, Result, sym, refl, ap, ◌∙◌, subst, ap₂, arith}
 use Rattle.std.proofs.lemmas.Bool.{cond_both}
 use Rattle.access.specs.Ready.{content_of}
 use Rattle.calendar.specs.Calendar.{seconds_in_all, date_of, second_of, of_bytes, second_if_real}
@@ -20,22 +20,21 @@ use Rattle.pending.specs.declared.table.PendingTable.{PendingTable}
 use Rattle.pending.specs.Rows.{is_waiting}
 use Rattle.pending.specs.Tables.{table_of, all_tables}
 use Rattle.head.specs.declared.head.Head.{Head}
-use Rattle.fates.specs.Stagings.{Memory, run, any_due, due_by, Agrees, waiting_in, listed}
-use Rattle.model.specs.States.{Going, begun, row_of, log_of, on_head}
-use Rattle.model.specs.Steps.{noted, each_activated, activated_if}
+use Rattle.fates.specs.Stagings.{run, any_due, due_by, Agrees}
+use Rattle.model.specs.States.{begun, row_of, log_of, on_head}
 use Rattle.model.specs.Calls.{log_names}
 use Rattle.model.specs.Procedures.{Order, clear, acknowledge, set_clock, activate, withdraw, read_self, mark_set, obeyed, carried_out, sized, clear_one, clear_order, acknowledge_order, clock_order, row_order, order_of, ordered, called_number, called_parameters}
 use Rattle.model.specs.Procedures as procedure
 use Rattle.model.proofs.Keeping.{Kept, raised}
 use Rattle.model.proofs.Ordering.{SafeOrder, carried_kept}
-use Rattle.ledger.specs.Meanings.{is_done, called, happened, asked_of, clock_after}
+use Rattle.ledger.specs.Meanings.{is_done, called}
 use Rattle.ledger.specs.Ledger.{Ledger}
-use Rattle.ledger.specs.Entries.{Outline, event, reading, activations_of, activations_in, all_activations, brings}
+use Rattle.ledger.specs.Entries.{event, activations_of}
 use Rattle.ledger.specs.Statement.{head_in}
-use Rattle.ledger.proofs.Seen.{said_of, seen_row}
-use Rattle.ledger.proofs.Ordered.{Ordered, clears_one, clears_all, acknowledges, sets, activates_all, activates_one, withdraws_all, withdraws_one, reads_self, order_happens, order_asks, order_brings, activations_for, ordered_number, ordered_clock, ordered_happens, ordered_asks, ordered_brings, all_activations_lem, one_activation}
-use Rattle.ledger.proofs.Outlines.{outlines, row_brings, brings_seen, if_outline, each_outline, noted_outline, self_read_outline, event_then_time, rows_account}
-use Rattle.ledger.proofs.Tied.{Pasts, TiedAll, Tied}
+use Rattle.ledger.proofs.Seen.{said_of}
+use Rattle.ledger.proofs.Ordered.{Ordered, clears_one, clears_all, acknowledges, sets, activates_all, activates_one, withdraws_all, withdraws_one, reads_self, order_happens, order_asks, order_brings, ordered_number, ordered_clock, ordered_happens, ordered_asks, ordered_brings, all_activations_lem, one_activation}
+use Rattle.ledger.proofs.Outlines.{outlines, brings_seen, if_outline, each_outline, noted_outline, self_read_outline, event_then_time, rows_account}
+use Rattle.ledger.proofs.Tied.{Pasts, Tied}
 use Rattle.ledger.proofs.TiedSteps.{along}
 use Rattle.ledger.proofs.TiedOrders.{ordered_pasts, Covered, carried_along}
 use Rattle.ledger.proofs.Views.{seen_of}

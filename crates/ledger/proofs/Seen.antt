@@ -1,5 +1,5 @@
 -- Rows and tables as the head says them, and that memory shows the same.
-use Rattle.std.proofs.Common.{◌≡◌, ℕ, List}
+use Rattle.std.proofs.Common.{List}
 use Rattle.memory.specs.Blocks.{Block}
 use Rattle.pending.specs.declared.row.Row.{Row}
 use Rattle.pending.specs.declared.row.Row.TheVariants.{Empty, Waiting}

@@ -1,41 +1,37 @@
 -- A service keeps a meter and its ledger together.
-use Rattle.std.proofs.Common.{◌≡◌, ℕ, ◌+◌, ◌<◌, ◌≤◌, Bool, true, false, cond, List, [], ◌∷◌, ◌++◌, map, length, take, drop, Some, None, Ok, Err, Option, Result, sym, refl, ap, ◌∙◌, subst, ap₂, arith}
+use Rattle.std.proofs.Common.{◌≡◌, ℕ, ◌+◌, ◌<◌, ◌≤◌, true, List, [], ◌∷◌, map, length, take, drop, Some, None, Ok, Err, Option, Result, sym, refl, ap, ◌∙◌, subst, ap₂, arith}
 use Rattle.std.proofs.lemmas.List.{length-drop}
 use Rattle.access.specs.Ready.{content_of}
 use Rattle.calendar.specs.Calendar.{seconds_in_all, date_of}
-use Rattle.fields.specs.Words.{word}
-use Rattle.fields.specs.Patches.{overlay}
-use Rattle.memory.specs.Blocks.{Block}
 use Rattle.numbers.specs.declared.procedure.ProcedureResult.{ProcedureResult}
 use Rattle.numbers.specs.declared.procedure.ProcedureResult.TheVariants.{Completed}
 use Rattle.refusals.specs.declared.fault.ServiceFault.{ServiceFault}
 use Rattle.request.specs.declared.part.Part.{Part}
-use Rattle.records.specs.declared.event.Event.TheVariants.{TableWritten, ProcedureInvoked}
+use Rattle.records.specs.declared.event.Event.TheVariants.{TableWritten}
 use Rattle.pending.specs.declared.table.PendingTable.{PendingTable}
 use Rattle.pending.specs.Tables.{table_number}
 use Rattle.pending.specs.Triggers.{plan_of}
 use Rattle.directory.specs.declared.entry.TableEntry.{TableEntry}
 use Rattle.directory.specs.Geometry.{current_block, pending_block, staged_length}
-use Rattle.fates.specs.Stagings.{Memory, run, after, written, staged}
-use Rattle.model.specs.States.{Meter, Going, Recorded, begun, ended, set_row, on_head, on_blocks}
+use Rattle.fates.specs.Stagings.{run, after, written, staged}
+use Rattle.model.specs.States.{Meter, Recorded, begun, set_row, on_head, on_blocks}
 use Rattle.model.specs.Calls.{totals_verdict}
 use Rattle.model.specs.Procedures.{Order, called_number, carried_out}
 use Rattle.model.specs.Procedures as procedure
 use Rattle.model.specs.Requests.{Deed, reading, writing, staging, calling, staged_due}
-use Rattle.model.specs.Serving.{put_in, write_done, stage_done, row_for, call_done, head_of, performed, limited, admitted, answered, served_if, write_answer}
+use Rattle.model.specs.Serving.{put_in, write_done, stage_done, row_for, call_done, head_of, performed, limited, admitted, answered, served_if}
 use Rattle.model.proofs.Keeping.{Kept, raised, noted_kept}
 use Rattle.model.proofs.Admitting.{Placed, Safe}
-use Rattle.model.proofs.Ordering.{SafeOrder, called_safe, carried_kept, clock_after_lem}
+use Rattle.model.proofs.Ordering.{SafeOrder, called_safe, clock_after_lem}
 use Rattle.model.proofs.StayingSound.{begun_kept}
 use Rattle.model.proofs.ServingSound.{of_meter_lem, admitted_safe, put_kept, row_kept, row_formed, waits_in}
-use Rattle.ledger.specs.Meanings.{Call, serve, served, has_effect, Meaning, reads_only, bytes_to, written_by, nothing, wrote, staged_for, called, meant, happened, named, due_named, pending_from}
+use Rattle.ledger.specs.Meanings.{serve, served, has_effect, Meaning, reads_only, bytes_to, written_by, nothing, wrote, staged_for, called, meant, happened, due_named, pending_from}
 use Rattle.ledger.specs.Ledger.{Fed, Ledger, marked}
-use Rattle.ledger.specs.Entries.{outline_of, event, brings, procedure_brings}
-use Rattle.ledger.specs.Lives.{State, running, blocks_in, Step, bytes_of, serve_step}
-use Rattle.ledger.specs.Statement.{head_in}
+use Rattle.ledger.specs.Entries.{outline_of, event, brings}
+use Rattle.ledger.specs.Lives.{State, running, blocks_in, serve_step}
 use Rattle.ledger.proofs.Seen.{said_of}
 use Rattle.ledger.proofs.Asked.{Goes, to_utility, to_table, Writing, Staging, Means, admitted_means, named_table, reading_means, calling_means, writing_means, staging_means}
-use Rattle.ledger.proofs.Outlines.{outlines, noted_outline}
+use Rattle.ledger.proofs.Outlines.{noted_outline}
 use Rattle.ledger.proofs.TiedSteps.{Low, along, noted_along, head_along, put_along}
 use Rattle.ledger.proofs.Views.{seen_of, pending_low}
 use Rattle.ledger.proofs.ViewsCalls.{write_seen, write_unseen, stage_seen}

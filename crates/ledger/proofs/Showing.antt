@@ -1,5 +1,5 @@
 -- The bytes of a sound memory show what its head says.
-use Rattle.std.proofs.Common.{◌≡◌, ℕ, ◌+◌, ◌%◌, ◌<◌, ◌≤◌, Bool, true, false, cond, ◌&&◌, List, [], ◌∷◌, ◌++◌, Some, Option, sym, refl, ap, ◌∙◌, ap₂, arith}
+use Rattle.std.proofs.Common.{◌≡◌, ℕ, Bool, true, false, List, [], ◌∷◌, Some, Option, sym, refl, ap, ◌∙◌, ap₂, arith}
 use mathlib.Core.Path.{fun_ext}
 use Rattle.std.proofs.lemmas.Bool.{and_parts}
 use Rattle.access.specs.Ready.{content_of}
@@ -14,7 +14,6 @@ use Rattle.pending.specs.declared.row.Row.TheVariants.{Empty, Waiting}
 use Rattle.pending.specs.declared.table.PendingTable.{PendingTable}
 use Rattle.pending.specs.declared.table.PendingTable.TheVariants.{Calendar, Outputs, Override}
 use Rattle.pending.specs.declared.trigger.Due.{Due}
-use Rattle.pending.specs.declared.trigger.Due.TheVariants.{At, ByCommand}
 use Rattle.pending.specs.declared.trigger.Trigger.{Trigger}
 use Rattle.pending.specs.declared.trigger.Trigger.TheVariants.{Absolute, Relative, OnCommand}
 use Rattle.pending.specs.Rows.{is_row_formed}
@@ -35,7 +34,7 @@ use Rattle.model.specs.Tables.{current_table, staged_table}
 use Rattle.model.specs.Soundness.{SoundImage}
 use Rattle.model.proofs.StayingSound.{said}
 use Rattle.ledger.specs.Statement.{row_in, row_shown, staged_in, table_in, counts_in, memory_of, head_in}
-use Rattle.ledger.proofs.Seen.{seen_row, seen_in, said_of}
+use Rattle.ledger.proofs.Seen.{seen_row, said_of}
 
 -- a row's bytes show the row
 abbrev row_seen : Row → List ℕ → Seen

@@ -1,10 +1,9 @@
 -- The three logs in a memory as it is formatted, and as a call leaves it.
-use Rattle.std.proofs.Common.{◌≡◌, ℕ, ◌≤◌, List, [], length, Option, sym, refl, ap, ◌∙◌, subst, arith}
-use Rattle.std.proofs.lemmas.List.{get_or-set_same}
+use Rattle.std.proofs.Common.{◌≡◌, ℕ, ◌≤◌, List, [], length, Option, sym, refl, subst, arith}
 use Rattle.access.specs.Ready.{needed, Ready}
 use Rattle.fields.specs.Patches.{patch}
 use Rattle.fields.specs.Words.{word}
-use Rattle.memory.specs.Blocks.{Block, sound, corrupt, content_or, Whole}
+use Rattle.memory.specs.Blocks.{Block, Whole}
 use Rattle.numbers.specs.declared.log.LogName.{LogName}
 use Rattle.numbers.specs.declared.log.LogName.TheVariants.{History, SelfReads, LoadProfile}
 use Rattle.records.specs.Layouts.{event_record_of, self_read_of, interval_of}
@@ -12,7 +11,7 @@ use Rattle.logs.specs.declared.log.Log.{Log}
 use Rattle.logs.specs.Heads.{empty_head}
 use Rattle.logs.specs.Places.{history_log, self_read_log, load_profile_log}
 use Rattle.head.specs.declared.head.Head.{Head}
-use Rattle.head.specs.Heads.{decode_head, encode_head, logs_from}
+use Rattle.head.specs.Heads.{encode_head, logs_from}
 use Rattle.head.specs.Order.{WellFormed}
 use Rattle.head.proofs.HeadLaws.{laws}
 use Rattle.model.specs.States.{Going, log_of, ended}

@@ -1,5 +1,5 @@
 -- What is seen of activations and changes of time.
-use Rattle.std.proofs.Common.{◌≡◌, ℕ, ◌+◌, ◌<◌, Bool, true, false, cond, ◌≢◌, List, [], length, refl, ap, ◌∙◌, ap₂, inl, inr, arith}
+use Rattle.std.proofs.Common.{◌≡◌, ℕ, ◌+◌, ◌<◌, Bool, true, false, cond, ◌≢◌, List, length, refl, ap, ◌∙◌, ap₂, inl, inr, arith}
 use mathlib.Core.Path.{fun_ext}
 use Rattle.std.proofs.lemmas.List.{get_or-set_same, get_or-set_other, length-take-le}
 use Rattle.std.proofs.lemmas.Bool.{cases_Bool, cond_both}
@@ -9,7 +9,7 @@ use Rattle.calendar.specs.Calendar.{seconds_in_all}
 use Rattle.fields.specs.Words.{part}
 use Rattle.fields.specs.Patches.{patch}
 use Rattle.fields.proofs.Places.{part_patch_same}
-use Rattle.memory.specs.Blocks.{Block, sound, corrupt, content_or}
+use Rattle.memory.specs.Blocks.{Block}
 use Rattle.logs.proofs.SlotWrites.{content_same, content_other}
 use Rattle.records.specs.declared.event.Event.TheVariants.{PowerUp}
 use Rattle.pending.specs.declared.plan.Plan.{Plan}

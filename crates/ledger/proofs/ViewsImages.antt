@@ -1,5 +1,5 @@
 -- What memory shows after a call, and of a new meter.
-use Rattle.std.proofs.Common.{◌≡◌, ℕ, List, sym, refl, ap, ◌∙◌, arith}
+use Rattle.std.proofs.Common.{◌≡◌, ℕ, List, sym, refl, ap, arith}
 use Rattle.access.specs.Ready.{Ready}
 use Rattle.fields.specs.Patches.{patch}
 use Rattle.memory.specs.Blocks.{Block}
@@ -7,9 +7,8 @@ use Rattle.logs.proofs.SlotWrites.{content_other}
 use Rattle.pending.specs.declared.row.Row.TheVariants.{Empty}
 use Rattle.pending.specs.declared.table.PendingTable.{PendingTable}
 use Rattle.pending.specs.declared.table.PendingTable.TheVariants.{Calendar, Outputs, Override}
-use Rattle.head.specs.Heads.{decode_head, encode_head, rows_from}
+use Rattle.head.specs.Heads.{encode_head, rows_from}
 use Rattle.head.specs.Order.{WellFormed}
-use Rattle.head.proofs.HeadLaws.{laws}
 use Rattle.fates.specs.Stagings.{Agrees, listed}
 use Rattle.model.specs.States.{Going, ended, row_of}
 use Rattle.model.specs.Calls.{formatted, feeding}

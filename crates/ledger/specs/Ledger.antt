@@ -1,5 +1,5 @@
 -- The ledger. It is fed each call's arguments, its answer with the procedure's result, and the entries recorded, in turn. It reads no memory.
-use Rattle.std.specs.Prelude.{ℕ, Bool, true, false, cond, List, [], ◌∷◌, ◌++◌, replicate, Some, None, Option}
+use Rattle.std.specs.Prelude.{ℕ, cond, List, [], ◌∷◌, ◌++◌, replicate, Some, None, Option}
 use Rattle.records.specs.declared.history.EventRecord.{EventRecord}
 use Rattle.records.specs.declared.self_read.SelfRead.{SelfRead}
 use Rattle.records.specs.declared.interval.Interval.{Interval}

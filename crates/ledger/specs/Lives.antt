@@ -1,14 +1,14 @@
 -- The life of a plain meter: a format, then any calls.
-use Rattle.std.specs.Prelude.{ℕ, List, [], ◌∷◌, ◌++◌, take, Ok, Err, Option, Result}
+use Rattle.std.specs.Prelude.{ℕ, List, [], ◌∷◌, ◌++◌, take, Ok, Err, Result}
 use Rattle.memory.specs.Blocks.{Block}
 use Rattle.refusals.specs.declared.fault.MeterFault.{MeterFault}
 use Rattle.refusals.specs.declared.fault.ServiceFault.{ServiceFault}
-use Rattle.model.specs.States.{Meter, Recorded}
+use Rattle.model.specs.States.{Meter}
 use Rattle.model.specs.Calls as call
 use Rattle.model.specs.Calls.{Done, Started}
 use Rattle.model.specs.Serving.{Served}
 use Rattle.model.specs.Serving as serving
-use Rattle.ledger.specs.Meanings.{Call, start, tick, energy, serve, stop, Answer, plain, served}
+use Rattle.ledger.specs.Meanings.{Call, start, tick, energy, serve, stop, plain, served}
 use Rattle.ledger.specs.Ledger.{Fed}
 
 -- A meter is cold, with its memory, or started.

@@ -1,5 +1,5 @@
 -- Format, start, tick, energy and stop: what they refuse, in order, and what they do.
-use Rattle.std.specs.Prelude.{ℕ, zero, suc, ◌+◌, ◌%◌, Bool, true, false, cond, List, [], ◌∷◌, ◌++◌, length, drop, replicate, Some, None, Ok, Err, Option, Result, ◌==◌, nat_lt}
+use Rattle.std.specs.Prelude.{ℕ, zero, suc, ◌+◌, ◌%◌, true, cond, List, [], ◌∷◌, ◌++◌, drop, replicate, None, Ok, Err, Result, ◌==◌, nat_lt}
 use Rattle.access.specs.Ready.{needed, content_of, ready_verdict, size_verdict}
 use Rattle.calendar.specs.Calendar.{seconds_in_all}
 use Rattle.fields.specs.Words.{le_bytes}
@@ -8,10 +8,7 @@ use Rattle.memory.specs.declared.fault.MemoryFault.{MemoryFault}
 use Rattle.memory.specs.Blocks.{Block, sound}
 use Rattle.numbers.specs.declared.log.LogName.{LogName}
 use Rattle.numbers.specs.declared.log.LogName.TheVariants.{History, SelfReads, LoadProfile}
-use Rattle.records.specs.declared.event.Event.{Event}
 use Rattle.records.specs.declared.event.Event.TheVariants.{PowerUp}
-use Rattle.records.specs.declared.status.Status.{Status}
-use Rattle.pending.specs.declared.table.PendingTable.{PendingTable}
 use Rattle.pending.specs.declared.table.PendingTable.TheVariants.{Calendar, Override}
 use Rattle.refusals.specs.declared.fault.MeterFault.{MeterFault}
 use Rattle.refusals.specs.declared.fault.MeterFault.TheVariants.{Memory, OutOfOrder, BadSecond, LogLimit}

@@ -1,5 +1,5 @@
 -- What stands of every call of the plain meter: what a refusal leaves, and the buffers.
-use Rattle.std.specs.Prelude.{◌≡◌, ℕ, ◌<◌, ◌≤◌, ◌⊎◌, List, length, drop, Ok, Err, Result}
+use Rattle.std.specs.Prelude.{◌≡◌, ℕ, ◌<◌, ◌≤◌, ◌⊎◌, List, length, drop, Ok, Err}
 use Rattle.memory.specs.declared.fault.MemoryFault.{MemoryFault}
 use Rattle.memory.specs.Blocks.{Block}
 use Rattle.refusals.specs.declared.fault.MeterFault.{MeterFault}

@@ -1,5 +1,5 @@
 -- The procedures: what their parameters order, and what is then done.
-use Rattle.std.specs.Prelude.{ℕ, Bool, true, false, cond, List, [], ◌∷◌, length, drop, Some, None, Ok, Err, Option, Result, ◌==◌, nat_lt, slice_index}
+use Rattle.std.specs.Prelude.{ℕ, true, cond, List, [], ◌∷◌, length, drop, Some, None, Ok, Err, Option, Result, ◌==◌, nat_lt, slice_index}
 use Rattle.calendar.specs.Calendar.{second_if_real, of_bytes}
 use Rattle.fields.specs.Words.{word}
 use Rattle.numbers.specs.declared.log.LogName.{LogName}
@@ -7,11 +7,9 @@ use Rattle.numbers.specs.declared.procedure.Procedure.{Procedure}
 use Rattle.numbers.specs.declared.procedure.Procedure.TheVariants.{ResetList, UpdateLastRead, SetDateTime, ActivateAll, ActivateOne, WithdrawAll, WithdrawOne, TakeSelfRead}
 use Rattle.numbers.specs.declared.procedure.ProcedureResult.{ProcedureResult}
 use Rattle.numbers.specs.declared.procedure.ProcedureResult.TheVariants.{Completed, InvalidParameter, Conflict, Unrecognized}
-use Rattle.numbers.specs.Names.{log_numbered, procedure_numbered, procedure_number}
-use Rattle.records.specs.declared.event.Event.{Event}
+use Rattle.numbers.specs.Names.{log_numbered, procedure_numbered}
 use Rattle.records.specs.declared.event.Event.TheVariants.{TimeChanged, ProcedureInvoked}
 use Rattle.logs.specs.Heads.{acknowledged, cleared}
-use Rattle.pending.specs.declared.row.Row.{Row}
 use Rattle.pending.specs.declared.row.Row.TheVariants.{Empty}
 use Rattle.pending.specs.declared.table.PendingTable.{PendingTable}
 use Rattle.pending.specs.Rows.{is_waiting}

@@ -1,5 +1,5 @@
 -- What a request is decided to do, or refused for, before anything is done.
-use Rattle.std.specs.Prelude.{ℕ, Bool, true, false, cond, List, [], length, take, drop, is_some, Some, None, Ok, Err, Option, Result, nat_lt}
+use Rattle.std.specs.Prelude.{ℕ, Bool, cond, List, length, take, drop, is_some, Some, None, Ok, Err, Option, Result, nat_lt}
 use Rattle.memory.specs.Blocks.{Block}
 use Rattle.fields.specs.Patches.{patch}
 use Rattle.numbers.specs.declared.service.Key.{Key}

@@ -1,5 +1,5 @@
 -- Serve: a request, answered.
-use Rattle.std.specs.Prelude.{ℕ, Bool, true, false, cond, List, [], ◌∷◌, ◌++◌, length, take, drop, Some, None, Ok, Err, Option, Result}
+use Rattle.std.specs.Prelude.{ℕ, List, [], ◌∷◌, length, take, drop, Some, None, Ok, Err, Option, Result}
 use Rattle.access.specs.Ready.{content_of, stored, ready_verdict}
 use Rattle.fields.specs.Words.{part}
 use Rattle.fields.specs.Patches.{patch, overlay}
@@ -18,7 +18,6 @@ use Rattle.pending.specs.declared.row.Row.{Row}
 use Rattle.pending.specs.declared.row.Row.TheVariants.{Empty, Waiting}
 use Rattle.pending.specs.declared.table.PendingTable.{PendingTable}
 use Rattle.pending.specs.Triggers.{plan_of}
-use Rattle.directory.specs.declared.entry.Source.{Source}
 use Rattle.directory.specs.declared.entry.TableEntry.{TableEntry}
 use Rattle.directory.specs.Geometry.{pending_block}
 use Rattle.head.specs.declared.head.Head.{Head}

@@ -1,5 +1,5 @@
 -- A sound meter: block 0 says a well-formed head, in blocks that are there, sound and whole, and the clock is in the calendar.
-use Rattle.std.specs.Prelude.{◌≡◌, ℕ, ◌<◌, ◌≤◌, true, List, length, Ok, Err, Result}
+use Rattle.std.specs.Prelude.{◌≡◌, ℕ, ◌<◌, ◌≤◌, true, List, length, Ok}
 use Rattle.access.specs.Ready.{needed, Ready, content_of}
 use Rattle.calendar.specs.Calendar.{seconds_in_all}
 use Rattle.memory.specs.Blocks.{Block, Whole}

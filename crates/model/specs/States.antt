@@ -1,5 +1,5 @@
 -- The plain meter: what it is between calls, and as a call works on it.
-use Rattle.std.specs.Prelude.{ℕ, ◌-◌, Bool, true, false, cond, List, [], ◌∷◌, ◌++◌, Option, slice_index_or}
+use Rattle.std.specs.Prelude.{ℕ, ◌-◌, List, [], Option, slice_index_or}
 use Rattle.access.specs.Ready.{content_of, stored}
 use Rattle.memory.specs.Blocks.{Block}
 use Rattle.numbers.specs.declared.log.LogName.{LogName}

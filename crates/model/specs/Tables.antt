@@ -1,10 +1,9 @@
 -- The bytes of every table, as a read shows them.
-use Rattle.std.specs.Prelude.{ℕ, ◌+◌, true, false, cond, List, [], ◌∷◌, ◌++◌, replicate, Some, None, Option}
+use Rattle.std.specs.Prelude.{ℕ, ◌+◌, cond, List, [], ◌∷◌, ◌++◌, replicate, Some, None, Option}
 use Rattle.access.specs.Ready.{content_of}
 use Rattle.calendar.specs.Calendar.{date_of, bytes_of}
 use Rattle.fields.specs.Words.{part, le_bytes}
 use Rattle.memory.specs.Blocks.{Block}
-use Rattle.numbers.specs.declared.log.LogName.{LogName}
 use Rattle.numbers.specs.Names.{result_number}
 use Rattle.records.specs.Layouts.{register_bytes}
 use Rattle.logs.specs.Tables.{log_table}

@@ -1,5 +1,5 @@
 -- The tariff: which tier counts, what is a right table, and when the calendar asks for a self-read.
-use Rattle.std.specs.Prelude.{ℕ, ◌+◌, ◌/◌, ◌%◌, ◌^◌, Bool, true, false, cond, ◌&&◌, ◌||◌, List, [], ◌∷◌, ◌==◌, nat_le, nat_lt, slice_index}
+use Rattle.std.specs.Prelude.{ℕ, ◌+◌, ◌/◌, ◌%◌, ◌^◌, Bool, true, cond, ◌&&◌, ◌||◌, List, [], ◌∷◌, ◌==◌, nat_le, nat_lt, slice_index}
 use Rattle.calendar.specs.Calendar.{weekday_of}
 use Rattle.fields.specs.Words.{part}
 use Rattle.pending.specs.declared.table.PendingTable.{PendingTable}

@@ -1,15 +1,14 @@
 -- The worked examples, as one statement over the definitions that the contracts of the code cite.
-use Rattle.std.specs.Prelude.{◌≡◌, ℕ, ◌/◌, List, [], ◌∷◌, length, take, replicate, Some, None, Ok, Err, Option, Result, slice_set}
-use Rattle.calendar.specs.Calendar.{second_of, second_if_real, date_if_in_range, weekday_of, dated}
+use Rattle.std.specs.Prelude.{◌≡◌, ℕ, ◌/◌, List, [], ◌∷◌, length, take, replicate, Some, None, Ok, Err, slice_set}
+use Rattle.calendar.specs.Calendar.{second_if_real, date_if_in_range, weekday_of, dated}
 use Rattle.logs.specs.Deeds.{appending, book_of}
 use Rattle.logs.specs.Places.{history_log}
-use Rattle.memory.specs.Blocks.{Block, corrupt}
+use Rattle.memory.specs.Blocks.{corrupt}
 use Rattle.memory.specs.Checksum.{checksum_of}
 use Rattle.model.specs.States.{Meter}
 use Rattle.model.specs.Calls.{formatted, meter_of}
 use Rattle.model.specs.Serving.{Served, served}
 use Rattle.records.specs.declared.history.EventRecord.{EventRecord}
-use Rattle.refusals.specs.declared.fault.ServiceFault.{ServiceFault}
 use Rattle.refusals.specs.declared.fault.ServiceFault.TheVariants.{BadPart}
 
 -- A meter that was formatted new, whatever the memory was, at clock 100; and what it answers to the reader's key.

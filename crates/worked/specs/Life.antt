@@ -1,5 +1,5 @@
 -- A life that is worked out: four stagings with their fates, and the account of the history.
-use Rattle.std.specs.Prelude.{◌≡◌, ℕ, List, [], ◌∷◌, ◌++◌, map, length, replicate, slice_index_or}
+use Rattle.std.specs.Prelude.{◌≡◌, ℕ, List, [], ◌∷◌, ◌++◌, map, replicate, slice_index_or}
 use Rattle.memory.specs.Blocks.{Block, corrupt}
 use Rattle.numbers.specs.declared.log.LogName.TheVariants.{History}
 use Rattle.calendar.specs.Calendar.{dated}
