@@ -1,9 +1,8 @@
 // A record of the load profile: the total register at the end of an interval, and the interval's status.
-ghost use Rattle.records.specs.Layouts.{interval_bytes, interval_of, IntervalFits, interval_layout};
-ghost use Rattle.std.proofs.Math.Path.{refl};
+ghost use Rattle.records.specs.Layouts.{interval_bytes, interval_of, IntervalFits};
+ghost use Rattle.records.specs.Lengths.{interval_narrow, interval_long};
 ghost use Rattle.records.specs.Readings.{interval_back};
 ghost use Rattle.records.specs.Wholes.{interval_only};
-ghost use Rattle.std.proofs.Common.{rules};
 
 use crate::kind::Record;
 use crate::layout::{date_in, fill_interval};
@@ -31,9 +30,9 @@ impl Record for Interval {
 
     ghost fits = { IntervalFits };
 
-    ghost narrow = { Prim.search rules };
+    ghost narrow = { interval_narrow };
 
-    ghost long = { unfold interval_layout in λ r. refl };
+    ghost long = { interval_long };
 
     ghost back = { interval_back };
 

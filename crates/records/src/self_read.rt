@@ -1,9 +1,8 @@
 // A record of the self-reads: the registers and when they were read.
-ghost use Rattle.records.specs.Layouts.{self_read_bytes, self_read_of, SelfReadFits, five_words, self_read_layout};
-ghost use Rattle.std.proofs.Math.Path.{refl};
+ghost use Rattle.records.specs.Layouts.{self_read_bytes, self_read_of, SelfReadFits};
+ghost use Rattle.records.specs.Lengths.{self_read_narrow, self_read_long};
 ghost use Rattle.records.specs.Readings.{self_read_back};
 ghost use Rattle.records.specs.Wholes.{self_read_only};
-ghost use Rattle.std.proofs.Common.{rules};
 
 use crate::kind::Record;
 use crate::layout::{date_in, fill_self_read};
@@ -28,9 +27,9 @@ impl Record for SelfRead {
 
     ghost fits = { SelfReadFits };
 
-    ghost narrow = { Prim.search rules };
+    ghost narrow = { self_read_narrow };
 
-    ghost long = { unfold five_words self_read_layout in λ r. refl };
+    ghost long = { self_read_long };
 
     ghost back = { self_read_back };
 

@@ -1,5 +1,5 @@
 use Rattle.std.proofs.Common.{refl, arith}
-use Rattle.steps.proofs.Steady.{At, powered_on}
+use Rattle.steps.proofs.Steady.{powered_on}
 use Rattle.steps.proofs.clock.note_start.Goals as goal
 
 pub returns : goal.returns

@@ -2,7 +2,7 @@ use Rattle.std.proofs.Common.{sym, ap, ◌∙◌}
 use Rattle.model.specs.States.{Going}
 use Rattle.steps.specs.Work.{working}
 use Rattle.steps.proofs.Speaking.{silent_tick}
-use Rattle.steps.proofs.Steady.{At, ticked_on}
+use Rattle.steps.proofs.Steady.{ticked_on}
 use Rattle.steps.proofs.Growth.{grown_on}
 use Rattle.steps.proofs.clock.pass_second.Goals as goal
 

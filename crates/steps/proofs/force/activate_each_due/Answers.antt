@@ -1,7 +1,7 @@
 use Rattle.std.proofs.Common.{◌∙◌}
 use Rattle.pending.specs.Rows.{is_due}
 use Rattle.model.specs.Steps.{time_changed}
-use Rattle.steps.proofs.Steady.{At, three_activated}
+use Rattle.steps.proofs.Steady.{three_activated}
 use Rattle.steps.proofs.Growth.{grown_on}
 use Rattle.steps.proofs.force.activate_each_due.Goals as goal
 

@@ -1,6 +1,6 @@
 use Rattle.std.proofs.Common.{◌∙◌}
 use Rattle.pending.specs.Rows.{is_waiting}
-use Rattle.steps.proofs.Steady.{At, three_activated}
+use Rattle.steps.proofs.Steady.{three_activated}
 use Rattle.steps.proofs.Growth.{grown_on}
 use Rattle.steps.proofs.force.activate_each_waiting.Goals as goal
 

@@ -1,7 +1,6 @@
-use Rattle.std.proofs.Common.{◌≡◌, sym, refl, ap, ◌∙◌, arith, rules}
+use Rattle.std.proofs.Common.{◌≡◌, sym, ap, ◌∙◌, arith, rules}
 use Rattle.pending.specs.declared.row.Row.TheVariants.{Empty, Waiting}
 use Rattle.model.specs.States.{Going, row_of}
-use Rattle.model.specs.Steps.{activated}
 use Rattle.steps.specs.Work.{working, any_of}
 use Rattle.steps.proofs.Speaking.{noted_speaks}
 use Rattle.steps.proofs.Steady.{row_empty, row_waiting}

@@ -1,4 +1,4 @@
-use Rattle.std.proofs.Common.{◌≡◌, refl, ap, ◌∙◌}
+use Rattle.std.proofs.Common.{refl, ap, ◌∙◌}
 use Rattle.records.specs.declared.event.Event.TheVariants.{PendingActivated}
 use Rattle.model.specs.States.{Going, on_head, on_blocks}
 use Rattle.model.specs.Steps.{noted, brought_in, row_spent, read_first}
