@@ -1,5 +1,5 @@
 -- A part of two lists that are joined.
-use Rattle.std.proofs.Common.{◌≡◌, ℕ, ◌+◌, ◌-◌, ◌≤◌, min, List, ◌++◌, length, take, drop, ◌∙◌, arith, rules}
+use Rattle.std.proofs.Common.{◌≡◌, ℕ, ◌+◌, ◌-◌, ◌≤◌, min, List, ◌++◌, length, ◌∙◌, arith, rules}
 use borrow.Rule.Slice.PartMut.{put_mid, post_of}
 use Rattle.std.proofs.lemmas.List.{places, same_lists, length-append, length-take, length-drop, append-nil, take_at, drop_at, drop_all}
 use Rattle.fields.specs.Words.{part}
