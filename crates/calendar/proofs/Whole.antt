@@ -7,7 +7,7 @@ use Rattle.calendar.specs.Calendar.{seconds_in_all, leap_year, month_lengths, su
 use Rattle.calendar.specs.Laws.{Laws}
 use Rattle.calendar.proofs.Count.{before_year_lem, in_year, names}
 
--- n falls into a list of lengths at the place p .0, with p.1 left over.
+-- n falls into a list of lengths at the place p.0, with p.1 left over.
 pub record Falls (xs : List ℕ) (n : ℕ) (p : ℕ × ℕ) : Type 0 where
   pub inside : p.0 < length xs
   pub below : p.1 < get_or xs p.0 0

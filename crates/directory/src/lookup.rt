@@ -1,6 +1,6 @@
 // Tables by their numbers.
 ghost use Rattle.std.specs.Prelude.{◌≡◌, IfSome, IfOk};
-ghost use Rattle.std.specs.List.{AllByRecursion as All};
+ghost use Rattle.std.specs.List.{AllByRecursion};
 ghost use Rattle.directory.specs.Tables.{directory, Inside, lookup, listed, twin_of, numbered, find_table};
 ghost use Rattle.directory.specs.Lawful.{Lawful};
 
@@ -13,7 +13,7 @@ const TWIN_NUMBER: u16 = 4096;
 const TWIN_LENGTH: u16 = 6;
 
 fn find_in(rows: &[TableEntry], number: u16) -> Option<TableEntry>
-    requires { All Inside rows.now }
+    requires { AllByRecursion Inside rows.now }
     ensures entry { result ≡ lookup rows.now number }
     ensures inside { IfSome result Inside }
     ensures named { IfSome result (λ t. t.number ≡ number) }

@@ -1,6 +1,6 @@
 -- What is asked for lies in what is shown.
 use Rattle.std.proofs.Common.{◌≡◌, ℕ, ◌+◌, ◌-◌, ◌≤◌, Bool, true, false, cond, ◌||◌, eqb, ltb, ◌⊎◌, List, [], ◌∷◌, length, Some, None, Ok, Err, Option, Result, sym, refl, ap, inl, inr, arith}
-use Rattle.std.specs.List.{AllByRecursion as All}
+use Rattle.std.specs.List.{AllByRecursion}
 use Rattle.std.proofs.lemmas.Bool.{ltb-false, or_parts}
 use Rattle.fields.specs.Words.{part}
 use Rattle.numbers.specs.declared.service.Service.{Service}
@@ -40,11 +40,11 @@ Starts t = (t.source ≡ Initiate) × (t.access ≡ access.FullWrite)
 abbrev Whole : TableEntry → Type 0
 Whole t = Starts t ⊎ Shown t
 
-listed_whole : All Whole directory
+listed_whole : AllByRecursion Whole directory
 listed_whole =
     (inr (omega arith), (inr (omega arith), (inl (refl, refl), (inr (omega arith), (inr (omega arith), (inr (omega arith), (inr (omega arith), (inr (omega arith), (inr (omega arith), (inr (omega arith), (inr (omega arith), (inr (omega arith), tt))))))))))))
 
-lookup_whole : (ts : List TableEntry) (n : ℕ) (t : TableEntry) → All Whole ts → lookup ts n ≡ Some t → Whole t
+lookup_whole : (ts : List TableEntry) (n : ℕ) (t : TableEntry) → AllByRecursion Whole ts → lookup ts n ≡ Some t → Whole t
 lookup_whole [] n t all e = absurd (missing (sym e))
 lookup_whole (x ∷ ts) n t all e = go (lookup_whole ts n t all.1) (eqb x.number n) e
   where
