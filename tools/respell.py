@@ -3,7 +3,7 @@
 
 usage: respell.py [--check] [ROOT]      ROOT is the folder that holds crates/; --check writes nothing
 
-A name turns if an .antt file of crates/ declares it (a definition, a lemma, a field of a record or a constructor) and it begins in lower case.
+A name turns if an .antt file of crates/ declares it (a definition, a lemma, a field of a record or a constructor), or a trait of the code as its ghost member, and it begins in lower case.
 It turns in .antt files, and in the clauses, ghost lines and comments' code spans of .rt files; functions, types and strings of the code stay.
 Names of a function's goals and what Rattle makes stay, and a name stays in a file that imports it from a library.
 It stops if two names would fall together, in the whole tree or in one file, and lists them.
@@ -17,7 +17,7 @@ NAME = r'[^\s(){}.;,@"«»]+'
 WORD = re.compile(NAME)
 QUOTED = re.compile(r'"(?:[^"\\\n]|\\.)*"')
 DECLARED = re.compile(rf"(?m)^([ ]*)(?:(?:pub|abbrev|unfoldable|abstract) )*(?!use |mod |data |record |unfolding )({NAME})(?: \{{[^{{}}\n]*\}})* :(?= |$)([^\n]*)")
-KIND = re.compile(rf"(?m)^(?:abbrev |unfoldable )*(?:pub )?(?:data|record) ({NAME})")
+MEMBER = re.compile(r"\bghost (\w+)(?=\s*[:=])")
 USE = re.compile(r"\buse ([^\s;{]+)(\{[^;}]*\})?(?: as ([^\s;]+))?")
 PATH = re.compile(r"\b(use) [^\s;{]+")  # what a path names are modules and types
 CLAUSE = re.compile(r"\b(?:requires|ensures|ghost)\b\*?(?:\s+\w+)*\s*(?::\s*(?:owns\s+|lends\s+)?|=\s*)?\{|\bghost\s+use\b|#!?\[tactic\(")
@@ -70,6 +70,9 @@ def declared(root):
     names, every = {}, set()
     for path in files(root):
         if not path.endswith(".antt"):
+            for name in MEMBER.findall(re.sub(r"//[^\n]*", "", read(path))):
+                if name[0].islower() and snake(name) != name:
+                    names.setdefault(name, set()).add(path)
             continue
         answers = os.path.basename(path) in ("Answers.antt", "Invariants.antt", "Proof.antt")
         text = re.sub(r"--[^\n]*", "", read(path))
@@ -149,6 +152,7 @@ def rt(text, table):
         at = b
     out.append(text[at:])
     for i in range(0, len(out), 2):
+        out[i] = re.sub(r"\bghost (\w+)(?=\s*[:=])|\bghost (\w+)$", lambda m: "ghost " + table.get(m[1] or m[2], m[1] or m[2]), out[i])
         out[i] = re.sub(r"//[^\n]*", lambda c: re.sub(r"`[^`\n]*`", lambda m: "`" + turned(m[0][1:-1], table) + "`", c[0]), out[i])
     return "".join(out)
 
@@ -160,6 +164,7 @@ def main(argv):
     names, every = declared(root)
     bad = []
     by_new, spelling = {}, spelled(names)
+    defined = {snake(n) for n in names if "-" not in n}
     for old in names:
         if old not in FIELDS:
             by_new.setdefault(spelling[old], []).append(old)
@@ -169,7 +174,7 @@ def main(argv):
     count = 0
     for path in files(root):
         first = text = read(path)
-        lems = LEMS.get(os.path.relpath(path, root).replace(os.sep, "/"), ()) if names else ()
+        lems = [n for n in LEMS.get(os.path.relpath(path, root).replace(os.sep, "/"), ()) if n in names or snake(n) in defined]
         text = turned(text, {n: snake(n) + "_lem" for n in lems})
         theirs = from_library(text)
         table = {old: new for old, new in spelling.items() if old not in theirs}

@@ -28,8 +28,8 @@ NoneIn [] = Unit {0}
 NoneIn (g ∷ gs) = Impossible g × NoneIn gs
 
 -- A refusal tells the first that is possible. If something is possible the call is refused, and if nothing is it is accepted.
-pub record FirstTold {X F : Type 0} (causeOf : F → Cause) (place_of : F → ℕ) (order : List Ground) (answer : Result X F) : Type 0 where
-  pub told : (e : F) → answer ≡ Err e → FirstIn order (causeOf e) (place_of e)
+pub record FirstTold {X F : Type 0} (cause_of : F → Cause) (place_of : F → ℕ) (order : List Ground) (answer : Result X F) : Type 0 where
+  pub told : (e : F) → answer ≡ Err e → FirstIn order (cause_of e) (place_of e)
   pub refused : SomeIn order → (e : F) × (answer ≡ Err e)
   pub accepted : NoneIn order → (x : X) × (answer ≡ Ok x)
 

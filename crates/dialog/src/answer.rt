@@ -79,7 +79,7 @@ fn write_refused(out: &mut Vec<u8>, cause: Cause, place: u32) -> Result<(), Allo
 
 // Appends what a call said.
 fn write_verdict<R: Refusal>(out: &mut Vec<u8>, verdict: &Result<(), R>) -> Result<(), AllocError>
-    ensures { OnOk result (out.new.items ≡ verdict_after R.Refusal.causeOf R.Refusal.placeOf out.old.items verdict.now) }
+    ensures { OnOk result (out.new.items ≡ verdict_after R.Refusal.cause_of R.Refusal.place_of out.old.items verdict.now) }
 {
     match verdict {
         Ok(()) => out.extend_from_slice(b"ok"),

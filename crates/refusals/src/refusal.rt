@@ -11,33 +11,33 @@ use numbers::service::AnswerCode;
 
 pub trait Refusal {
     // The one cause and the one place of each fault.
-    ghost causeOf: { Self → CauseOf };
+    ghost cause_of: { Self → CauseOf };
 
-    ghost placeOf: { Self → ℕ };
+    ghost place_of: { Self → ℕ };
 
     fn cause(&self) -> Cause
-        ensures { result ≡ causeOf self.now };
+        ensures { result ≡ cause_of self.now };
 
     fn place(&self) -> u32
-        ensures { result ≡ placeOf self.now };
+        ensures { result ≡ place_of self.now };
 
     fn layer(&self) -> Layer
-        ensures { result ≡ layer_of (causeOf self.now) }
+        ensures { result ≡ layer_of (cause_of self.now) }
     {
         self.cause().layer()
     }
 
     fn code(&self) -> Option<AnswerCode>
-        ensures { result ≡ code_of (causeOf self.now) }
+        ensures { result ≡ code_of (cause_of self.now) }
     {
         self.cause().code()
     }
 }
 
 impl Refusal for MemoryFault {
-    ghost causeOf = { memory_cause };
+    ghost cause_of = { memory_cause };
 
-    ghost placeOf = { memory_place };
+    ghost place_of = { memory_place };
 
     fn cause(&self) -> Cause {
         match self {
@@ -55,9 +55,9 @@ impl Refusal for MemoryFault {
 }
 
 impl Refusal for MeterFault {
-    ghost causeOf = { meter_cause };
+    ghost cause_of = { meter_cause };
 
-    ghost placeOf = { meter_place };
+    ghost place_of = { meter_place };
 
     fn cause(&self) -> Cause {
         match self {
@@ -78,9 +78,9 @@ impl Refusal for MeterFault {
 }
 
 impl Refusal for ServiceFault {
-    ghost causeOf = { service_cause };
+    ghost cause_of = { service_cause };
 
-    ghost placeOf = { service_place };
+    ghost place_of = { service_place };
 
     fn cause(&self) -> Cause {
         match self {
