@@ -27,19 +27,19 @@ pub record Unmoved (m : Meter) (d : Done) : Type 0 where
   pub entries : d.entries ≡ []
 
 -- A service that did nothing: besides, no procedure was called, of the answer at most the first byte is another, and the scratch is as before or wiped.
-pub record Unserved (m : Meter) (oldAnswer oldScratch : List ℕ) (d : Served) : Type 0 where
+pub record Unserved (m : Meter) (old_answer old_scratch : List ℕ) (d : Served) : Type 0 where
   pub meter : d.meter ≡ m
   pub entries : d.entries ≡ []
   pub procedure : d.procedure ≡ None
-  pub behind : drop 1 d.answer ≡ drop 1 oldAnswer
-  pub long : length d.answer ≡ length oldAnswer
-  pub scratch : (d.scratch ≡ oldScratch) ⊎ (d.scratch ≡ wiped oldScratch)
+  pub behind : drop 1 d.answer ≡ drop 1 old_answer
+  pub long : length d.answer ≡ length old_answer
+  pub scratch : (d.scratch ≡ old_scratch) ⊎ (d.scratch ≡ wiped old_scratch)
 
 -- Both buffers are as they were, and the length of a short one is told.
-pub record TooShort (short oldAnswer oldScratch : List ℕ) (d : Served) : Type 0 where
+pub record TooShort (short old_answer old_scratch : List ℕ) (d : Served) : Type 0 where
   pub told : d.result ≡ Err (ShortBuffer (length short))
-  pub answer : d.answer ≡ oldAnswer
-  pub scratch : d.scratch ≡ oldScratch
+  pub answer : d.answer ≡ old_answer
+  pub scratch : d.scratch ≡ old_scratch
 
 -- The first byte is the code of the refusal's cause, which has one.
 pub record Coded (e : ServiceFault) (answer : List ℕ) : Type 0 where
@@ -48,10 +48,10 @@ pub record Coded (e : ServiceFault) (answer : List ℕ) : Type 0 where
   pub first : take 1 answer ≡ code_number code ∷ []
 
 -- So many bytes of the answer are new, which it has room for; those behind them stay.
-pub record Answered (n : ℕ) (oldAnswer : List ℕ) (d : Served) : Type 0 where
+pub record Answered (n : ℕ) (old_answer : List ℕ) (d : Served) : Type 0 where
   pub fits : n ≤ answer_room
-  pub long : length d.answer ≡ length oldAnswer
-  pub behind : drop n d.answer ≡ drop n oldAnswer
+  pub long : length d.answer ≡ length old_answer
+  pub behind : drop n d.answer ≡ drop n old_answer
 
 -- A refused call leaves memory, clock and response, records nothing, and alters of the answer at most its first byte.
 -- Short buffers are refused, the answer first, and not touched. Otherwise the scratch is wiped however the call ends, and a refusal puts its code at the front of the answer.

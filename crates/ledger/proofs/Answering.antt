@@ -13,7 +13,7 @@ use Rattle.refusals.specs.declared.fault.ServiceFault.TheVariants.{NotReady}
 use Rattle.request.specs.declared.part.Part.{Part}
 use Rattle.request.specs.Answers.{answer_bytes, buffer_verdict}
 use Rattle.request.specs.Asks.{Ask, partial_read, ask_in, service_of}
-use Rattle.request.specs.Asks.{table_of as tableNumbered}
+use Rattle.request.specs.Asks.{table_of as table_numbered}
 use Rattle.numbers.specs.declared.service.Service.TheVariants.{PartialRead}
 use Rattle.request.specs.Parts.{whole_part}
 use Rattle.request.proofs.Sends.{sent_read}
@@ -133,7 +133,7 @@ asked_decided : (request : List ℕ) (table offset count : ℕ) (t : TableEntry)
     decided 1 request ≡ Ok (reading t (record { from = offset; count = count }))
 asked_decided request table offset count t is found some few inside =
     let few' : ltb 1024 count ≡ false = le-ltb 1024 count few in
-    ap (λ (r : Result Ask ServiceFault). and_then r (λ ask. and_then (key_verdict 1 ask) (λ _. and_then (table_for (tableNumbered ask) (service_of ask)) (λ u. fitted u ask)))) is
+    ap (λ (r : Result Ask ServiceFault). and_then r (λ ask. and_then (key_verdict 1 ask) (λ _. and_then (table_for (table_numbered ask) (service_of ask)) (λ u. fitted u ask)))) is
     ∙ ap (λ (r : Result TableEntry ServiceFault). and_then r (λ u. fitted u (partial_read table offset count))) found ∙ rw (fits_part offset count t.length some inside, few')
 
 log_decided : (name : LogName) (offset count : ℕ) → 0 < count → count ≤ 1024 → offset + count ≤ log_length name → decided 1 (read_log name offset count) ≡ Ok (reading (log_entry name) (record { from = offset; count = count }))

@@ -44,9 +44,9 @@ pub withdrew_all_seen : (g : Going) → length g.head.rows ≡ 3 → seen_of (on
 withdrew_all_seen g three =
     let one = set_row Calendar Empty g.head in
     let two = set_row Outputs Empty one in
-    let threeOne : length one.rows ≡ 3 = length-set g.head.rows 0 Empty ∙ three in
-    let threeTwo : length two.rows ≡ 3 = length-set one.rows 1 Empty ∙ threeOne in
-    emptied_seen Override two g.blocks threeTwo ∙ ap (emptied Override) (emptied_seen Outputs one g.blocks threeOne ∙ ap (emptied Outputs) (emptied_seen Calendar g.head g.blocks three))
+    let three_one : length one.rows ≡ 3 = length-set g.head.rows 0 Empty ∙ three in
+    let three_two : length two.rows ≡ 3 = length-set one.rows 1 Empty ∙ three_one in
+    emptied_seen Override two g.blocks three_two ∙ ap (emptied Override) (emptied_seen Outputs one g.blocks three_one ∙ ap (emptied Outputs) (emptied_seen Calendar g.head g.blocks three))
 
 -- writes: the front of what was patched is the front, patched
 front_patch : (w at : ℕ) (new old : List ℕ) → at + length new ≤ w → w ≤ length old → part w 0 (patch at new old) ≡ patch at new (part w 0 old)

@@ -117,10 +117,10 @@ pub all_seen : {c : List ℕ} (n clock : ℕ) (test : Row → Bool) (of : Due �
 all_seen {c} n clock test of g agree real few kept =
     let one = activated_if test clock Calendar g in
     let two = activated_if test clock Outputs one in
-    let keptOne : Kept c (n + 3) one = if_kept n clock test Calendar g real (omega arith) kept in
-    let keptTwo : Kept c (n + 3 + 3) two = if_kept (n + 3) clock test Outputs one real (omega arith) keptOne in
-    if_seen (n + 3 + 3) clock test of Override two agree (omega arith) keptTwo
-    ∙ ap (forced of Override) (if_seen (n + 3) clock test of Outputs one agree (omega arith) keptOne ∙ ap (forced of Outputs) (if_seen n clock test of Calendar g agree (omega arith) kept))
+    let kept_one : Kept c (n + 3) one = if_kept n clock test Calendar g real (omega arith) kept in
+    let kept_two : Kept c (n + 3 + 3) two = if_kept (n + 3) clock test Outputs one real (omega arith) kept_one in
+    if_seen (n + 3 + 3) clock test of Override two agree (omega arith) kept_two
+    ∙ ap (forced of Override) (if_seen (n + 3) clock test of Outputs one agree (omega arith) kept_one ∙ ap (forced of Outputs) (if_seen n clock test of Calendar g agree (omega arith) kept))
 
 pub waiting_tests : Tests is_waiting any_due
 waiting_tests = record { none = refl; waits = λ plan due. refl }
