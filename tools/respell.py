@@ -6,7 +6,7 @@ usage: respell.py [--check] [ROOT]      ROOT is the folder that holds crates/; -
 A name turns if an .antt file of crates/ declares it (a definition, a lemma, a field of a record or a constructor), or a trait of the code as its ghost member, and it begins in lower case.
 It turns in .antt files, and in the clauses, ghost lines and comments' code spans of .rt files; functions, types and strings of the code stay.
 Names of a function's goals and what Rattle makes stay, and a name stays in a file that imports it from a library.
-It stops if two names would fall together, in the whole tree or in one file, and lists them.
+It lists the names that would fall together, in the whole tree or in one file, and then writes nothing.
 """
 
 import os
@@ -66,24 +66,23 @@ def read(path):
 
 
 def declared(root):
-    """The names that turn, and every name that is declared."""
-    names, every = {}, set()
+    """The names that turn."""
+    names = set()
     for path in files(root):
         if not path.endswith(".antt"):
             for name in MEMBER.findall(re.sub(r"//[^\n]*", "", read(path))):
                 if name[0].islower() and snake(name) != name:
-                    names.setdefault(name, set()).add(path)
+                    names.add(name)
             continue
         answers = os.path.basename(path) in ("Answers.antt", "Invariants.antt", "Proof.antt")
         text = re.sub(r"--[^\n]*", "", read(path))
         for m in DECLARED.finditer(text):
             depth, name, rest = m.groups()
-            every.add(name)
             if answers and (depth or "goal." in rest or m[0].startswith("pub ")):
                 continue
             if name[0].islower() and snake(name) != name:
-                names.setdefault(name, set()).add(path)
-    return names, every
+                names.add(name)
+    return names
 
 
 def from_library(text):
@@ -161,17 +160,17 @@ def main(argv):
     check = "--check" in argv
     roots = [a for a in argv if a != "--check"]
     root = roots[0] if roots else "."
-    names, every = declared(root)
+    names = declared(root)
     bad = []
     by_new, spelling = {}, spelled(names)
     defined = {snake(n) for n in names if "-" not in n}
-    for old in names:
+    for old in sorted(names):
         if old not in FIELDS:
             by_new.setdefault(spelling[old], []).append(old)
     for new, olds in sorted(by_new.items()):
         if len(olds) > 1:
             bad.append(f"{new}: from {', '.join(sorted(olds))}")
-    count = 0
+    changed = {}
     for path in files(root):
         first = text = read(path)
         lems = [n for n in LEMS.get(os.path.relpath(path, root).replace(os.sep, "/"), ()) if n in names or snake(n) in defined]
@@ -195,12 +194,13 @@ def main(argv):
             if table[old] in words and table[old] not in APART:
                 bad.append(f"{os.path.relpath(path, root)}: {old} would be {table[old]}, which stands there already")
         if new != first:
-            count += 1
-            if not check:
-                with open(path, "w", encoding="utf-8") as f:
-                    f.write(new)
+            changed[path] = new
+    for path, new in changed.items():
+        if not check and not bad:
+            with open(path, "w", encoding="utf-8") as f:
+                f.write(new)
     print("\n".join(bad))
-    print(f"{len(names)} names, {count} files, {len(bad)} that fall together")
+    print(f"{len(names)} names, {len(changed)} files, {len(bad)} that fall together")
     return 1 if bad else 0
 
 
