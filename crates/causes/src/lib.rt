@@ -6,15 +6,8 @@ ghost use Rattle.causes.specs.Answering.{ProceduresAnswer};
 ghost use Rattle.causes.specs.Leaving.{answer_room, RefusedLeaves};
 ghost use Rattle.causes.specs.Orders.{EarlierIsTold, OrdersNumbered};
 
-// Does nothing: its contract has the laws of refusals.
-fn laws_stand()
-    ensures leaves { RefusedLeaves }
-    ensures earlier { EarlierIsTold }
-    ensures numbered { OrdersNumbered }
-    ensures procedures { ProceduresAnswer }
-{}
-
 // The most bytes that an answer has.
+#[tactic(auto, using(crate::proofs::Leaves::refused_leaves, crate::proofs::Earlier::earlier_is_told, crate::proofs::Earlier::orders_numbered, crate::proofs::Answering::procedures_answer))]
 pub fn answer_room() -> u32
     ensures value { result ≡ answer_room }
     ensures leaves { RefusedLeaves }
@@ -22,6 +15,5 @@ pub fn answer_room() -> u32
     ensures numbered { OrdersNumbered }
     ensures procedures { ProceduresAnswer }
 {
-    laws_stand();
     1_028
 }

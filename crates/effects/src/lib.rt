@@ -7,17 +7,8 @@ ghost use Rattle.effects.specs.Alters.{Alters, WaitingLeft, BehindLeft, AsMany};
 ghost use Rattle.effects.specs.Reads.{Reads};
 ghost use Rattle.effects.specs.Writes.{Writes};
 
-// Does nothing: its contract has the laws.
-fn laws_stand()
-    ensures alters { Alters }
-    ensures waiting { WaitingLeft }
-    ensures behind { BehindLeft }
-    ensures as_many { AsMany }
-    ensures reads { Reads }
-    ensures writes { Writes }
-{}
-
 // The first block that no call alters.
+#[tactic(auto, using(crate::proofs::AlteredBlocks::alters, crate::proofs::LeftBlocks::waiting_left, crate::proofs::LeftBlocks::behind_left, crate::proofs::Numbering::as_many, crate::proofs::Reading::reads, crate::proofs::Writing::writes))]
 pub fn first_untouched() -> u32
     ensures value { result ≡ needed }
     ensures alters { Alters }
@@ -27,6 +18,5 @@ pub fn first_untouched() -> u32
     ensures reads { Reads }
     ensures writes { Writes }
 {
-    laws_stand();
     27
 }

@@ -7,17 +7,12 @@ ghost use Rattle.ledger.specs.Statement.{EveryLife};
 
 use model::log_limit;
 
-// Does nothing: its contract is the law of lives.
-fn every_life_stands()
-    ensures { EveryLife }
-{}
-
 // The most that a log may have recorded at any point of a life: no call records more than twelve entries in one log, and none that records
 // begins above the limit.
+#[tactic(auto, using(crate::proofs::Lives::every_life))]
 pub fn total_limit() -> u32
     ensures value { result ≡ log_limit + 12 }
     ensures lives { EveryLife }
 {
-    every_life_stands();
     log_limit() + 12
 }

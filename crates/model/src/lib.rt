@@ -6,20 +6,13 @@ ghost use Rattle.model.specs.Calls.{log_limit};
 ghost use Rattle.model.specs.Laws.{RefusalsLeave, BuffersLeft};
 ghost use Rattle.model.specs.Soundness.{StaysSound};
 
-// Does nothing: its contract has the laws of the plain meter.
-fn laws_stand()
-    ensures refusals { RefusalsLeave }
-    ensures buffers { BuffersLeft }
-    ensures sound { StaysSound }
-{}
-
 // The most that a log may have recorded when a call begins.
+#[tactic(auto, using(crate::proofs::Refusing::refusals_leave, crate::proofs::Refusing::buffers_left, crate::proofs::ServingSound::stays_sound))]
 pub fn log_limit() -> u32
     ensures value { result ≡ log_limit }
     ensures refusals { RefusalsLeave }
     ensures buffers { BuffersLeft }
     ensures sound { StaysSound }
 {
-    laws_stand();
     4_000_000_000
 }

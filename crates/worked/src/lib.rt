@@ -7,22 +7,13 @@ ghost use Rattle.worked.specs.Life.{WorkedLife};
 
 use calendar::DateTime;
 
-fn examples_stand()
-    ensures { Worked }
-{}
-
-fn life_stands()
-    ensures { WorkedLife }
-{}
-
 // The second of 2024-02-29 12:30:00.
+#[tactic(auto, using(crate::proofs::Worked::worked, crate::proofs::Worked::worked_life))]
 pub fn leap_day() -> Option<u32>
     ensures examples { Worked }
     ensures life { WorkedLife }
     ensures second { result ≡ Some 762525000 }
 {
-    examples_stand();
-    life_stands();
     let date = DateTime {
         year: 24,
         month: 2,
