@@ -91,7 +91,7 @@ pub(crate) fn response_bytes(response: Option<Response>) -> [u8; 4]
         None => [0; 4],
         Some(left) => {
             let [low, high] = left.procedure.to_le_bytes();
-            [low, high, left.sequence, left.result.number()]
+            [low, high, left.sequence, u8::from(left.result)]
         }
     }
 }
