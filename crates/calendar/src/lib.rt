@@ -21,17 +21,12 @@ pub struct DateTime {
     pub second: u8,
 }
 
-// Does nothing: its contract has the laws of the whole calendar.
-fn laws_stand()
-    ensures { Laws }
-{}
-
 // How many seconds the calendar has.
+#[tactic(auto, using(crate::proofs::Whole::laws))]
 pub fn seconds() -> u32
     ensures value { result ≡ seconds_in_all }
     ensures laws { Laws }
 {
-    laws_stand();
     DAYS_IN_ALL * SECONDS_IN_DAY
 }
 
@@ -108,6 +103,7 @@ fn before_year(year: u8) -> u32
 }
 
 // The month that has a day of a year, counted from 0.
+// Not a search over `before_month`: that what it finds is the last such month did not close.
 fn month_of(leap: bool, day: u32) -> u8
     requires { day < 365 + (if leap then 1 else 0) }
     ensures month { (1 ≤ result) × (result ≤ 12) }
@@ -185,11 +181,11 @@ pub fn from_second(second: u32) -> Option<DateTime>
     }
 }
 
-impl DateTime {
-    // Year, month, day, hour, minute and second, a byte each. The bytes may name no real date-time.
-    pub fn from_bytes(bytes: [u8; 6]) -> DateTime
-        ensures { result ≡ of_bytes bytes }
-    {
+// Year, month, day, hour, minute and second, a byte each. The bytes may name no real date-time.
+impl From<[u8; 6]> for DateTime {
+    ghost from_gives = { λ bytes date. date ≡ of_bytes bytes };
+
+    fn from(bytes: [u8; 6]) -> DateTime {
         let [year, month, day, hour, minute, second] = bytes;
         DateTime {
             year,
@@ -200,30 +196,32 @@ impl DateTime {
             second,
         }
     }
+}
 
-    pub fn to_bytes(&self) -> [u8; 6]
-        ensures { result ≡ bytes_of self.now }
-    {
+impl From<DateTime> for [u8; 6] {
+    ghost from_gives = { λ date bytes. bytes ≡ bytes_of date };
+
+    fn from(date: DateTime) -> [u8; 6] {
         [
-            self.year,
-            self.month,
-            self.day,
-            self.hour,
-            self.minute,
-            self.second,
+            date.year,
+            date.month,
+            date.day,
+            date.hour,
+            date.minute,
+            date.second,
         ]
     }
+}
 
+impl DateTime {
     // Whether the calendar has this date, and the day this time.
     pub fn is_real(&self) -> bool
         ensures meaning { MatchBool result (Real self.now) (Real self.now → ⊥) }
         ensures test { result ≡ is_real self.now }
     {
         self.year < 100
-            && 1 <= self.month
-            && self.month <= 12
-            && 1 <= self.day
-            && self.day <= month_length(is_leap_year(self.year), self.month)
+            && (1..=12).contains(&self.month)
+            && (1..=month_length(is_leap_year(self.year), self.month)).contains(&self.day)
             && self.hour < 24
             && self.minute < 60
             && self.second < 60

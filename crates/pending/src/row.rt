@@ -13,18 +13,12 @@ pub enum Row {
     Waiting { plan: Plan, due: Due },
 }
 
-// Does nothing: its contract has the laws of rows.
-fn row_laws_stand()
-    ensures { RowLaws }
-{}
-
 impl Row {
     // A staging. What waited before is gone.
     pub fn stage(&mut self, plan: Plan, due: Due)
         ensures row { self.new ≡ Waiting plan due }
         ensures laws { RowLaws }
     {
-        row_laws_stand();
         *self = Row::Waiting { plan, due };
     }
 
@@ -38,10 +32,7 @@ impl Row {
     pub fn is_waiting(&self) -> bool
         ensures { result ≡ is_waiting self.now }
     {
-        match self {
-            Row::Empty => false,
-            Row::Waiting { .. } => true,
-        }
+        matches!(self, Row::Waiting { .. })
     }
 
     // Whether what waits is to take force at this clock.
@@ -49,17 +40,7 @@ impl Row {
         ensures test { result ≡ is_due self.now clock }
         ensures meaning { MatchBool result (HasComeDue self.now clock) (HasComeDue self.now clock → ⊥) }
     {
-        match *self {
-            Row::Waiting {
-                due: Due::At(second),
-                ..
-            } => second <= clock,
-            Row::Waiting {
-                due: Due::ByCommand,
-                ..
-            } => false,
-            Row::Empty => false,
-        }
+        matches!(*self, Row::Waiting { due: Due::At(second), .. } if second <= clock)
     }
 
     // The six trigger bytes as they were sent, and zeros where nothing waits.
@@ -68,7 +49,7 @@ impl Row {
     {
         match *self {
             Row::Empty => [0; 6],
-            Row::Waiting { plan, .. } => plan.to_bytes(),
+            Row::Waiting { plan, .. } => plan.into(),
         }
     }
 }

@@ -11,9 +11,6 @@ use calendar::DateTime;
 use fields::bytes::get8;
 use fields::little::get32;
 
-// The bytes of a record.
-const LENGTH: usize = 11;
-
 #[derive(Clone, Copy, PartialEq, Eq, Debug)]
 pub struct Interval {
     pub at: DateTime,
@@ -22,7 +19,9 @@ pub struct Interval {
 }
 
 impl Record for Interval {
-    ghost width = { 11 };
+    const WIDTH: usize = 11;
+
+    ghost WIDTH = { 11 };
 
     ghost bytes = { interval_bytes };
 
@@ -38,16 +37,12 @@ impl Record for Interval {
 
     ghost only = { interval_only };
 
-    fn width() -> usize {
-        LENGTH
-    }
-
     fn write(&self, slot: &mut [u8]) {
-        fill_interval(slot, self.at, self.total, self.status.to_byte());
+        fill_interval(slot, self.at, self.total, self.status.into());
     }
 
     fn read(slot: &[u8]) -> Option<Interval> {
-        let status = Status::from_byte(get8(slot, 10))?;
+        let status = Status::try_from(get8(slot, 10)).ok()?;
         Some(Interval {
             at: date_in(slot),
             total: get32(slot, 6),

@@ -1,6 +1,6 @@
 // The energy registers: the total, and one for each tier.
 ghost use Rattle.std.specs.Prelude.{◌≡◌, ◌+◌, ◌≤◌, length};
-ghost use Rattle.records.specs.Layouts.{five_words, register_bytes, registers_at, RegistersFit};
+ghost use Rattle.records.specs.Layouts.{five_words, registers_at, IsWrittenAs};
 
 use fields::little::{get32, put32};
 
@@ -25,14 +25,22 @@ fn five_words(a: u32, b: u32, c: u32, d: u32, e: u32) -> [u8; 20]
     bytes
 }
 
-impl Registers {
-    pub fn to_bytes(&self) -> [u8; 20]
-        ensures bytes { result ≡ register_bytes self.now }
-        ensures fit { RegistersFit self.now }
-    {
-        five_words(self.total, self.tier1, self.tier2, self.tier3, self.tier4)
-    }
+impl From<Registers> for [u8; 20] {
+    ghost from_gives = { IsWrittenAs };
 
+    fn from(registers: Registers) -> [u8; 20] {
+        let Registers {
+            total,
+            tier1,
+            tier2,
+            tier3,
+            tier4,
+        } = registers;
+        five_words(total, tier1, tier2, tier3, tier4)
+    }
+}
+
+impl Registers {
     // The registers in the 20 bytes from a place on.
     pub fn read_at(bytes: &[u8], at: usize) -> Registers
         requires { at + 20 ≤ length bytes.now }

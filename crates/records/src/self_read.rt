@@ -9,9 +9,6 @@ use crate::layout::{date_in, fill_self_read};
 use crate::registers::Registers;
 use calendar::DateTime;
 
-// The bytes of a record.
-const LENGTH: usize = 26;
-
 #[derive(Clone, Copy, PartialEq, Eq, Debug)]
 pub struct SelfRead {
     pub at: DateTime,
@@ -19,7 +16,9 @@ pub struct SelfRead {
 }
 
 impl Record for SelfRead {
-    ghost width = { 26 };
+    const WIDTH: usize = 26;
+
+    ghost WIDTH = { 26 };
 
     ghost bytes = { self_read_bytes };
 
@@ -35,12 +34,8 @@ impl Record for SelfRead {
 
     ghost only = { self_read_only };
 
-    fn width() -> usize {
-        LENGTH
-    }
-
     fn write(&self, slot: &mut [u8]) {
-        fill_self_read(slot, self.at, &self.registers.to_bytes());
+        fill_self_read(slot, self.at, &self.registers.into());
     }
 
     fn read(slot: &[u8]) -> Option<SelfRead> {
