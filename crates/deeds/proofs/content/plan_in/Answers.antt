@@ -4,4 +4,4 @@ use Rattle.deeds.proofs.Contents.{take_six}
 use Rattle.deeds.proofs.content.plan_in.Goals as goal
 
 pub returns : goal.returns
-returns c = c.from_bytes.ensures.equation ∙ ap plan_of (sym (take_six c.args.content.now c.requires))
+returns c = c.try_from.ensures.equation ∙ ap plan_of (sym (take_six c.args.content.now c.requires))
