@@ -2,6 +2,8 @@
 #![tactic(auto)]
 
 ghost use Rattle.std.specs.Prelude.{◌≡◌, ℕ, ◌+◌, ◌*◌, ◌/◌, ◌%◌, ◌<◌, ◌≤◌, IfSome, if◌then◌else◌, MatchBool};
+ghost use Rattle.std.specs.Prelude.{nat_lt};
+ghost use Rattle.std.specs.List.{find, range_with_len};
 ghost use Rattle.std.specs.Option.{SomeIff};
 ghost use Rattle.calendar.specs.Calendar.{seconds_in_all, weekday_of, leap_year, month_length, before_month, before_year, day_of, second_of, RealDay, Real, is_real, second_if_real, Names, DateOf, date_of, date_if_in_range, bytes_of, of_bytes};
 ghost use Rattle.calendar.specs.Laws.{Laws, SecondBack, DateBack};
@@ -94,6 +96,7 @@ fn before_month(leap: bool, month: u8) -> u32
 }
 
 // The days before a year: four years have 1461, and the first of the four is the leap year.
+#[tactic(auto, using(crate::proofs::Count::before_year_lem))]
 fn before_year(year: u8) -> u32
     requires { year < 100 }
     ensures value { result ≡ before_year year }
@@ -103,39 +106,21 @@ fn before_year(year: u8) -> u32
 }
 
 // The month that has a day of a year, counted from 0.
-// Not a search over `before_month`: that what it finds is the last such month did not close.
+// The month that has a day of a year, counted from 0; none if it is the last.
+fn month_but_last(leap: bool, day: u32) -> Option<u8>
+    ensures { result ≡ find (λ m. nat_lt day (before_month leap (m + 1))) (range_with_len 1 11) }
+{
+    (1..12).find(|&month| day < before_month(leap, month + 1))
+}
+
+// The same for every month.
 fn month_of(leap: bool, day: u32) -> u8
     requires { day < 365 + (if leap then 1 else 0) }
     ensures month { (1 ≤ result) × (result ≤ 12) }
     ensures first { before_month leap result ≤ day }
     ensures last { day < before_month leap result + month_length leap result }
 {
-    let march = if leap { 60 } else { 59 };
-    if day < 31 {
-        1
-    } else if day < march {
-        2
-    } else if day < march + 31 {
-        3
-    } else if day < march + 61 {
-        4
-    } else if day < march + 92 {
-        5
-    } else if day < march + 122 {
-        6
-    } else if day < march + 153 {
-        7
-    } else if day < march + 184 {
-        8
-    } else if day < march + 214 {
-        9
-    } else if day < march + 245 {
-        10
-    } else if day < march + 275 {
-        11
-    } else {
-        12
-    }
+    month_but_last(leap, day).unwrap_or(12)
 }
 
 // The year, month and day of a day number.

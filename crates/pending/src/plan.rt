@@ -8,7 +8,7 @@ use std::error::Error;
 use std::fmt;
 
 // What a staged table waits for, and whether a self-read comes before it takes force.
-#[derive(Clone, Copy, PartialEq, Eq)]
+#[derive(Clone, Copy, PartialEq, Eq, Debug)]
 pub struct Plan {
     pub trigger: Trigger,
     pub self_read: bool,

@@ -7,7 +7,8 @@ ghost use Rattle.pending.specs.Laws.{RowLaws};
 use crate::plan::Plan;
 use crate::trigger::Due;
 
-#[derive(Clone, Copy, PartialEq, Eq)]
+// No `Option` of a staging: a row is an enum of its own by a rule of the project, matched and changed in place.
+#[derive(Clone, Copy, PartialEq, Eq, Debug)]
 pub enum Row {
     Empty,
     Waiting { plan: Plan, due: Due },

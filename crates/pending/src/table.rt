@@ -5,7 +5,7 @@ ghost use Rattle.pending.specs.Tables.{IsNumberOf, table_index, table_of};
 use std::error::Error;
 use std::fmt;
 
-#[derive(Clone, Copy, PartialEq, Eq)]
+#[derive(Clone, Copy, PartialEq, Eq, Debug)]
 pub enum PendingTable {
     Calendar,
     Outputs,

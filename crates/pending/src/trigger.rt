@@ -11,7 +11,7 @@ pub(crate) const RELATIVE: u8 = 1;
 
 pub(crate) const ON_COMMAND: u8 = 2;
 
-#[derive(Clone, Copy, PartialEq, Eq)]
+#[derive(Clone, Copy, PartialEq, Eq, Debug)]
 pub enum Trigger {
     // A date-time, at second 0.
     Absolute {
@@ -34,7 +34,7 @@ pub enum Trigger {
 }
 
 // When a staged table takes force. No `Option<u32>`: `due` would answer one inside another.
-#[derive(Clone, Copy, PartialEq, Eq)]
+#[derive(Clone, Copy, PartialEq, Eq, Debug)]
 pub enum Due {
     // As soon as the clock is not below this second.
     At(u32),
@@ -122,11 +122,7 @@ impl Trigger {
                 seconds: rest,
             } => {
                 let second = clock.checked_add(span(weeks, days, hours, minutes, rest))?;
-                if second < seconds() {
-                    Some(Due::At(second))
-                } else {
-                    None
-                }
+                (second < seconds()).then_some(Due::At(second))
             }
             Trigger::OnCommand => Some(Due::ByCommand),
         }

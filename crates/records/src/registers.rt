@@ -1,6 +1,6 @@
 // The energy registers: the total, and one for each tier.
 ghost use Rattle.std.specs.Prelude.{◌≡◌, ◌+◌, ◌≤◌, length};
-ghost use Rattle.records.specs.Layouts.{five_words, registers_at, IsWrittenAs};
+ghost use Rattle.records.specs.Layouts.{registers_at, IsWrittenAs};
 
 use fields::little::{get32, put32};
 
@@ -13,30 +13,18 @@ pub struct Registers {
     pub tier4: u32,
 }
 
-fn five_words(a: u32, b: u32, c: u32, d: u32, e: u32) -> [u8; 20]
-    ensures { result ≡ five_words a b c d e }
-{
-    let mut bytes = [0u8; 20];
-    put32(&mut bytes, 0, a);
-    put32(&mut bytes, 4, b);
-    put32(&mut bytes, 8, c);
-    put32(&mut bytes, 12, d);
-    put32(&mut bytes, 16, e);
-    bytes
-}
-
 impl From<Registers> for [u8; 20] {
     ghost from_gives = { IsWrittenAs };
 
+    #[tactic(auto, using(crate::proofs::Fills::in_turn), unfolding(crate::specs::Layouts::five_words))]
     fn from(registers: Registers) -> [u8; 20] {
-        let Registers {
-            total,
-            tier1,
-            tier2,
-            tier3,
-            tier4,
-        } = registers;
-        five_words(total, tier1, tier2, tier3, tier4)
+        let mut bytes = [0u8; 20];
+        put32(&mut bytes, 0, registers.total);
+        put32(&mut bytes, 4, registers.tier1);
+        put32(&mut bytes, 8, registers.tier2);
+        put32(&mut bytes, 12, registers.tier3);
+        put32(&mut bytes, 16, registers.tier4);
+        bytes
     }
 }
 

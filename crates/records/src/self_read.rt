@@ -5,9 +5,10 @@ ghost use Rattle.records.specs.Readings.{self_read_back};
 ghost use Rattle.records.specs.Wholes.{self_read_only};
 
 use crate::kind::Record;
-use crate::layout::{date_in, fill_self_read};
+use crate::layout::date_in;
 use crate::registers::Registers;
 use calendar::DateTime;
+use fields::bytes::put_bytes;
 
 #[derive(Clone, Copy, PartialEq, Eq, Debug)]
 pub struct SelfRead {
@@ -34,8 +35,10 @@ impl Record for SelfRead {
 
     ghost only = { self_read_only };
 
+    #[tactic(auto, using(crate::proofs::Fills::in_turn), unfolding(crate::specs::Layouts::self_read_layout))]
     fn write(&self, slot: &mut [u8]) {
-        fill_self_read(slot, self.at, &self.registers.into());
+        put_bytes(slot, 0, &<[u8; 6]>::from(self.at));
+        put_bytes(slot, 6, &<[u8; 20]>::from(self.registers));
     }
 
     fn read(slot: &[u8]) -> Option<SelfRead> {
