@@ -1,5 +1,5 @@
 -- Plans by their six bytes, and back.
-use Rattle.std.proofs.Common.{◌≡◌, ℕ, ◌+◌, ◌/◌, ◌%◌, ◌<◌, Bool, true, false, cond, ◌&&◌, eqb, List, [], ◌∷◌, length, get_or, Some, None, Option, sym, refl, ap, subst, ap₂, arith}
+use Rattle.std.proofs.Common.{◌≡◌, ℕ, ◌/◌, ◌%◌, ◌<◌, Bool, true, false, eqb, List, [], ◌∷◌, length, get_or, Some, None, Option, sym, refl, ap, subst, arith}
 use Rattle.std.proofs.lemmas.List.FromFn.{fill_by_all}
 use Rattle.std.proofs.lemmas.Bool.{cond-true}
 use Rattle.std.proofs.lemmas.Bool.Decides.{nat_tests}
@@ -26,22 +26,16 @@ abbrev TriggerOfBytes : ℕ → List ℕ → Option Trigger → Type 0
 TriggerOfBytes kind parts None = Unit {0}
 TriggerOfBytes kind parts (Some t) = (kind_of t ≡ kind) × (parts_of t ≡ parts) × (is_well_formed t ≡ true)
 
-zeros : (a b c d e : ℕ) → (eqb a 0 && (eqb b 0 && (eqb c 0 && (eqb d 0 && eqb e 0)))) ≡ true → ◌≡◌ {A = List ℕ} (0 ∷ 0 ∷ 0 ∷ 0 ∷ 0 ∷ []) (a ∷ b ∷ c ∷ d ∷ e ∷ [])
-zeros a b c d e h = grind (arith, nat_tests)
-
 trigger_of_bytes : (kind a b c d e : ℕ) → TriggerOfBytes kind (a ∷ b ∷ c ∷ d ∷ e ∷ []) (trigger_of kind a b c d e)
-trigger_of_bytes kind a b c d e = grind (arith, nat_tests, zeros)
+trigger_of_bytes kind a b c d e = grind (arith, nat_tests)
 
 abbrev PlanOfBytes : List ℕ → Option Plan → Type 0
 PlanOfBytes bytes None = Unit {0}
 PlanOfBytes bytes (Some p) = (plan_bytes p ≡ bytes) × (is_well_formed p.trigger ≡ true)
 
-first_byte : (kind z : ℕ) → z < 32 → kind ≡ z % 16 → kind + cond (eqb (z / 16) 1) 16 0 ≡ z
-first_byte kind z small k = grind (arith, nat_tests)
-
 with_self_read_lem : (z : ℕ) (parts : List ℕ) (o : Option Trigger) → z < 32 → TriggerOfBytes (z % 16) parts o → PlanOfBytes (z ∷ parts) (with_self_read (eqb (z / 16) 1) o)
 with_self_read_lem z parts None small g = tt
-with_self_read_lem z parts (Some t) small g = (ap₂ (λ x (y : List ℕ). x ∷ y) (first_byte (kind_of t) z small g.0) g.1, g.2)
+with_self_read_lem z parts (Some t) small g = grind (arith, nat_tests)
 
 plan_of_six : (z a b c d e : ℕ) → PlanOfBytes (z ∷ a ∷ b ∷ c ∷ d ∷ e ∷ []) (plan_of (z ∷ a ∷ b ∷ c ∷ d ∷ e ∷ []))
 plan_of_six z a b c d e = let t = trigger_of_bytes (z % 16) a b c d e in grind (arith, nat_tests, with_self_read_lem)
