@@ -1,4 +1,7 @@
 // A number that is no name.
+ghost use Rattle.std.specs.Prelude.{◌++◌, Some, codes};
+ghost use Rattle.std.specs.Fmt.{decimal};
+
 use std::error::Error;
 use std::fmt;
 
@@ -7,6 +10,8 @@ use std::fmt;
 pub struct UnknownNumber(pub u16);
 
 impl fmt::Display for UnknownNumber {
+    ghost output = { λ e. Some (decimal e.0 ++ codes " names nothing") };
+
     fn fmt<W: fmt::Write>(&self, f: &mut fmt::Formatter<W>) -> fmt::Result {
         write!(f, "{} names nothing", self.0)
     }

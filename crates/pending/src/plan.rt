@@ -1,5 +1,5 @@
 // The six bytes at the front of a staging.
-ghost use Rattle.std.specs.Prelude.{◌≡◌, ◌∷◌, slice_index};
+ghost use Rattle.std.specs.Prelude.{◌≡◌, ◌∷◌, Some, codes, slice_index};
 ghost use Rattle.pending.specs.Triggers.{parts_of, trigger_of, plan_of};
 ghost use Rattle.pending.specs.Laws.{IsReadAs, IsWrittenAs};
 
@@ -19,6 +19,8 @@ pub struct Plan {
 pub struct NoPlan;
 
 impl fmt::Display for NoPlan {
+    ghost output = { λ _. Some (codes "no plan has these bytes") };
+
     fn fmt<W: fmt::Write>(&self, f: &mut fmt::Formatter<W>) -> fmt::Result {
         f.write_str("no plan has these bytes")
     }

@@ -1,5 +1,6 @@
 // The tables that can be staged.
-ghost use Rattle.std.specs.Prelude.{◌≡◌, ok_or, slice_index_or};
+ghost use Rattle.std.specs.Prelude.{◌≡◌, ◌++◌, Some, codes, ok_or, slice_index_or};
+ghost use Rattle.std.specs.Fmt.{decimal};
 ghost use Rattle.pending.specs.Tables.{IsNumberOf, table_index, table_of};
 
 use std::error::Error;
@@ -51,6 +52,8 @@ impl From<PendingTable> for u16 {
 pub struct NotStaged(pub u16);
 
 impl fmt::Display for NotStaged {
+    ghost output = { λ e. Some (codes "table " ++ decimal e.0 ++ codes " cannot be staged") };
+
     fn fmt<W: fmt::Write>(&self, f: &mut fmt::Formatter<W>) -> fmt::Result {
         write!(f, "table {} cannot be staged", self.0)
     }

@@ -1,5 +1,6 @@
 // The status of an interval record, a byte of two flags.
-ghost use Rattle.std.specs.Prelude.{◌≡◌};
+ghost use Rattle.std.specs.Prelude.{◌≡◌, ◌++◌, Some, codes};
+ghost use Rattle.std.specs.Fmt.{decimal};
 ghost use Rattle.records.specs.Statuses.{status_byte, IsStatusOf};
 
 use std::error::Error;
@@ -27,6 +28,8 @@ impl From<Status> for u8 {
 pub struct NoStatus(pub u8);
 
 impl fmt::Display for NoStatus {
+    ghost output = { λ e. Some (codes "no status has the byte " ++ decimal e.0) };
+
     fn fmt<W: fmt::Write>(&self, f: &mut fmt::Formatter<W>) -> fmt::Result {
         write!(f, "no status has the byte {}", self.0)
     }
