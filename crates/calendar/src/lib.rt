@@ -105,7 +105,6 @@ fn before_year(year: u8) -> u32
     (u32::from(year) * 1461 + 3) / 4
 }
 
-// The month that has a day of a year, counted from 0.
 // The month that has a day of a year, counted from 0; none if it is the last.
 fn month_but_last(leap: bool, day: u32) -> Option<u8>
     ensures { result ≡ find (λ m. nat_lt day (before_month leap (m + 1))) (range_with_len 1 11) }

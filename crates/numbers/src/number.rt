@@ -1,11 +1,11 @@
-// A number that is no name.
+// What a number is that no name has.
 ghost use Rattle.std.specs.Prelude.{◌++◌, Some, codes};
 ghost use Rattle.std.specs.Fmt.{decimal};
 
 use std::error::Error;
 use std::fmt;
 
-// It holds the number.
+// A number that no name of a kind has.
 #[derive(Clone, Copy, PartialEq, Eq, Debug)]
 pub struct UnknownNumber(pub u16);
 
