@@ -2,6 +2,8 @@
 #![tactic(auto)]
 
 ghost use Rattle.std.specs.Prelude.{◌≡◌, ℕ, ◌+◌, ◌*◌, ◌/◌, ◌%◌, ◌<◌, ◌≤◌, IfSome, if◌then◌else◌, MatchBool};
+ghost use Rattle.std.specs.Prelude.{nat_lt};
+ghost use Rattle.std.specs.List.{find, range_with_len};
 ghost use Rattle.std.specs.Option.{SomeIff};
 ghost use Rattle.calendar.specs.Calendar.{seconds_in_all, weekday_of, leap_year, month_length, before_month, before_year, day_of, second_of, RealDay, Real, is_real, second_if_real, Names, DateOf, date_of, date_if_in_range, bytes_of, of_bytes};
 ghost use Rattle.calendar.specs.Laws.{Laws, SecondBack, DateBack};
@@ -21,17 +23,12 @@ pub struct DateTime {
     pub second: u8,
 }
 
-// Does nothing: its contract has the laws of the whole calendar.
-fn laws_stand()
-    ensures { Laws }
-{}
-
 // How many seconds the calendar has.
+#[tactic(auto, using(crate::proofs::Whole::laws))]
 pub fn seconds() -> u32
     ensures value { result ≡ seconds_in_all }
     ensures laws { Laws }
 {
-    laws_stand();
     DAYS_IN_ALL * SECONDS_IN_DAY
 }
 
@@ -99,6 +96,7 @@ fn before_month(leap: bool, month: u8) -> u32
 }
 
 // The days before a year: four years have 1461, and the first of the four is the leap year.
+#[tactic(auto, using(crate::proofs::Count::before_year_lem))]
 fn before_year(year: u8) -> u32
     requires { year < 100 }
     ensures value { result ≡ before_year year }
@@ -107,39 +105,21 @@ fn before_year(year: u8) -> u32
     (u32::from(year) * 1461 + 3) / 4
 }
 
-// The month that has a day of a year, counted from 0.
+// The month that has a day of a year, counted from 0; none if it is the last.
+fn month_but_last(leap: bool, day: u32) -> Option<u8>
+    ensures { result ≡ find (λ m. nat_lt day (before_month leap (m + 1))) (range_with_len 1 11) }
+{
+    (1..12).find(|&month| day < before_month(leap, month + 1))
+}
+
+// The same for every month.
 fn month_of(leap: bool, day: u32) -> u8
     requires { day < 365 + (if leap then 1 else 0) }
     ensures month { (1 ≤ result) × (result ≤ 12) }
     ensures first { before_month leap result ≤ day }
     ensures last { day < before_month leap result + month_length leap result }
 {
-    let march = if leap { 60 } else { 59 };
-    if day < 31 {
-        1
-    } else if day < march {
-        2
-    } else if day < march + 31 {
-        3
-    } else if day < march + 61 {
-        4
-    } else if day < march + 92 {
-        5
-    } else if day < march + 122 {
-        6
-    } else if day < march + 153 {
-        7
-    } else if day < march + 184 {
-        8
-    } else if day < march + 214 {
-        9
-    } else if day < march + 245 {
-        10
-    } else if day < march + 275 {
-        11
-    } else {
-        12
-    }
+    month_but_last(leap, day).unwrap_or(12)
 }
 
 // The year, month and day of a day number.
@@ -185,11 +165,11 @@ pub fn from_second(second: u32) -> Option<DateTime>
     }
 }
 
-impl DateTime {
-    // Year, month, day, hour, minute and second, a byte each. The bytes may name no real date-time.
-    pub fn from_bytes(bytes: [u8; 6]) -> DateTime
-        ensures { result ≡ of_bytes bytes }
-    {
+// Year, month, day, hour, minute and second, a byte each. The bytes may name no real date-time.
+impl From<[u8; 6]> for DateTime {
+    ghost from_gives = { λ bytes date. date ≡ of_bytes bytes };
+
+    fn from(bytes: [u8; 6]) -> DateTime {
         let [year, month, day, hour, minute, second] = bytes;
         DateTime {
             year,
@@ -200,30 +180,32 @@ impl DateTime {
             second,
         }
     }
+}
 
-    pub fn to_bytes(&self) -> [u8; 6]
-        ensures { result ≡ bytes_of self.now }
-    {
+impl From<DateTime> for [u8; 6] {
+    ghost from_gives = { λ date bytes. bytes ≡ bytes_of date };
+
+    fn from(date: DateTime) -> [u8; 6] {
         [
-            self.year,
-            self.month,
-            self.day,
-            self.hour,
-            self.minute,
-            self.second,
+            date.year,
+            date.month,
+            date.day,
+            date.hour,
+            date.minute,
+            date.second,
         ]
     }
+}
 
+impl DateTime {
     // Whether the calendar has this date, and the day this time.
     pub fn is_real(&self) -> bool
         ensures meaning { MatchBool result (Real self.now) (Real self.now → ⊥) }
         ensures test { result ≡ is_real self.now }
     {
         self.year < 100
-            && 1 <= self.month
-            && self.month <= 12
-            && 1 <= self.day
-            && self.day <= month_length(is_leap_year(self.year), self.month)
+            && (1..=12).contains(&self.month)
+            && (1..=month_length(is_leap_year(self.year), self.month)).contains(&self.day)
             && self.hour < 24
             && self.minute < 60
             && self.second < 60

@@ -33,13 +33,15 @@ fn rule(right: bool) -> Result<(), ServiceFault>
 }
 
 // The plan of the six trigger bytes at the front of a staging.
+#[tactic(auto, using(crate::proofs::Contents::take_six))]
 fn plan_in(content: &[u8]) -> Option<Plan>
     requires { 6 ≤ length content.now }
     ensures { result ≡ plan_of (take 6 content.now) }
 {
-    Plan::from_bytes([
+    Plan::try_from([
         content[0], content[1], content[2], content[3], content[4], content[5],
     ])
+    .ok()
 }
 
 // The plan of a staging, and when it takes force if it is staged at this clock.

@@ -39,7 +39,7 @@ fn check_write_key(key: Option<Key>) -> Result<(), ServiceFault>
 fn check_key(key: u8, request: &Request) -> Result<(), ServiceFault>
     ensures { result ≡ key_verdict key (ask_of request.now) }
 {
-    let key = Key::from_number(key);
+    let key = Key::try_from(key).ok();
     match request {
         Request::FullRead { .. } | Request::PartialRead { .. } => check_read_key(key),
         Request::FullWrite { .. } | Request::PartialWrite { .. } => check_write_key(key),

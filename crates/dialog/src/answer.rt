@@ -72,7 +72,7 @@ fn layer_text(layer: Layer) -> &'static [u8]
 fn write_refused(out: &mut Vec<u8>, cause: Cause, place: u32) -> Result<(), AllocError>
     ensures { OnOk result (out.new.items ≡ refused_after out.old.items cause place) }
 {
-    write_numbered(out, b"refused ", u32::from(cause.number()), b" place ")?;
+    write_numbered(out, b"refused ", u32::from(u8::from(cause)), b" place ")?;
     write_numbered(out, b"", place, b" layer ")?;
     out.extend_from_slice(layer_text(cause.layer()))
 }
@@ -110,7 +110,7 @@ fn write_code(out: &mut Vec<u8>, code: Option<AnswerCode>) -> Result<(), AllocEr
         None => out.extend_from_slice(b" code none"),
         Some(code) => {
             out.extend_from_slice(b" code ")?;
-            write_hex(out, &[code.number()])
+            write_hex(out, &[u8::from(code)])
         }
     }
 }

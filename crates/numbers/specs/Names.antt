@@ -12,6 +12,8 @@ use Rattle.numbers.specs.declared.procedure.Procedure.{Procedure}
 use Rattle.numbers.specs.declared.procedure.Procedure.TheVariants as procedure
 use Rattle.numbers.specs.declared.procedure.ProcedureResult.{ProcedureResult}
 use Rattle.numbers.specs.declared.procedure.ProcedureResult.TheVariants.{Completed, InvalidParameter, Conflict, Unrecognized}
+use Rattle.numbers.specs.declared.tier.Tier.{Tier}
+use Rattle.numbers.specs.declared.tier.Tier.TheVariants.{First, Second, Third, Fourth}
 
 -- The first of some names that has a number.
 abbrev pub first_with : {X : Type 0} → (X → ℕ) → ℕ → List X → Option X
@@ -31,6 +33,12 @@ log_number LoadProfile = 3
 
 abbrev pub log_numbered : ℕ → Option LogName
 log_numbered n = first_with log_number n (History ∷ (SelfReads ∷ (LoadProfile ∷ [])))
+
+-- The place of a log among the logs, from 0.
+abbrev pub log_index : LogName → ℕ
+log_index History = 0
+log_index SelfReads = 1
+log_index LoadProfile = 2
 
 abbrev pub service_number : Service → ℕ
 service_number FullRead = 0x30
@@ -86,3 +94,12 @@ result_number Unrecognized = 6
 
 abbrev pub result_numbered : ℕ → Option ProcedureResult
 result_numbered n = first_with result_number n (Completed ∷ (InvalidParameter ∷ (Conflict ∷ (Unrecognized ∷ []))))
+
+abbrev pub tier_number : Tier → ℕ
+tier_number First = 1
+tier_number Second = 2
+tier_number Third = 3
+tier_number Fourth = 4
+
+abbrev pub tier_numbered : ℕ → Option Tier
+tier_numbered n = first_with tier_number n (First ∷ (Second ∷ (Third ∷ (Fourth ∷ []))))

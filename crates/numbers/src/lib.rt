@@ -2,5 +2,7 @@
 #![tactic(auto)]
 
 pub mod log;
+pub mod number;
 pub mod procedure;
 pub mod service;
+pub mod tier;

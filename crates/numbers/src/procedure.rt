@@ -1,6 +1,9 @@
 // Procedures, and the results that they end with.
 ghost use Rattle.std.specs.Prelude.{◌≡◌};
-ghost use Rattle.numbers.specs.Names.{Reads, procedure_number, procedure_numbered, result_number, result_numbered};
+ghost use Rattle.numbers.specs.Names.{procedure_number, procedure_numbered, result_number, result_numbered};
+ghost use Rattle.numbers.specs.Numbers.{Numbered};
+
+use crate::number::UnknownNumber;
 
 #[derive(Clone, Copy, PartialEq, Eq, Debug)]
 pub enum Procedure {
@@ -14,27 +17,30 @@ pub enum Procedure {
     TakeSelfRead = 20,
 }
 
-impl Procedure {
-    pub fn number(self) -> u16
-        ensures { result ≡ procedure_number self }
-    {
-        self as u16
-    }
+impl From<Procedure> for u16 {
+    ghost from_gives = { λ procedure number. number ≡ procedure_number procedure };
 
-    pub fn from_number(number: u16) -> Option<Procedure>
-        ensures equation { result ≡ procedure_numbered number }
-        ensures reads { Reads procedure_number number result }
-    {
+    fn from(procedure: Procedure) -> u16 {
+        procedure as u16
+    }
+}
+
+impl TryFrom<u16> for Procedure {
+    type Error = UnknownNumber;
+
+    ghost try_from_gives = { Numbered procedure_number procedure_numbered };
+
+    fn try_from(number: u16) -> Result<Procedure, UnknownNumber> {
         match number {
-            4 => Some(Procedure::ResetList),
-            5 => Some(Procedure::UpdateLastRead),
-            10 => Some(Procedure::SetDateTime),
-            12 => Some(Procedure::ActivateAll),
-            13 => Some(Procedure::ActivateOne),
-            14 => Some(Procedure::WithdrawAll),
-            15 => Some(Procedure::WithdrawOne),
-            20 => Some(Procedure::TakeSelfRead),
-            _ => None,
+            4 => Ok(Procedure::ResetList),
+            5 => Ok(Procedure::UpdateLastRead),
+            10 => Ok(Procedure::SetDateTime),
+            12 => Ok(Procedure::ActivateAll),
+            13 => Ok(Procedure::ActivateOne),
+            14 => Ok(Procedure::WithdrawAll),
+            15 => Ok(Procedure::WithdrawOne),
+            20 => Ok(Procedure::TakeSelfRead),
+            _ => Err(UnknownNumber(number)),
         }
     }
 }
@@ -47,23 +53,26 @@ pub enum ProcedureResult {
     Unrecognized = 6,
 }
 
-impl ProcedureResult {
-    pub fn number(self) -> u8
-        ensures { result ≡ result_number self }
-    {
-        self as u8
-    }
+impl From<ProcedureResult> for u8 {
+    ghost from_gives = { λ outcome number. number ≡ result_number outcome };
 
-    pub fn from_number(number: u8) -> Option<ProcedureResult>
-        ensures equation { result ≡ result_numbered number }
-        ensures reads { Reads result_number number result }
-    {
+    fn from(outcome: ProcedureResult) -> u8 {
+        outcome as u8
+    }
+}
+
+impl TryFrom<u8> for ProcedureResult {
+    type Error = UnknownNumber;
+
+    ghost try_from_gives = { Numbered result_number result_numbered };
+
+    fn try_from(number: u8) -> Result<ProcedureResult, UnknownNumber> {
         match number {
-            0 => Some(ProcedureResult::Completed),
-            2 => Some(ProcedureResult::InvalidParameter),
-            3 => Some(ProcedureResult::Conflict),
-            6 => Some(ProcedureResult::Unrecognized),
-            _ => None,
+            0 => Ok(ProcedureResult::Completed),
+            2 => Ok(ProcedureResult::InvalidParameter),
+            3 => Ok(ProcedureResult::Conflict),
+            6 => Ok(ProcedureResult::Unrecognized),
+            _ => Err(UnknownNumber(u16::from(number))),
         }
     }
 }

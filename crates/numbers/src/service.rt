@@ -1,6 +1,9 @@
 // Services, the keys that they are asked with, and the codes that they answer with.
 ghost use Rattle.std.specs.Prelude.{◌≡◌};
-ghost use Rattle.numbers.specs.Names.{Reads, service_number, service_numbered, key_number, key_numbered, code_number};
+ghost use Rattle.numbers.specs.Names.{service_number, service_numbered, key_number, key_numbered, code_number};
+ghost use Rattle.numbers.specs.Numbers.{Numbered};
+
+use crate::number::UnknownNumber;
 
 // What a request asks for, by its first byte.
 #[derive(Clone, Copy, PartialEq, Eq, Debug)]
@@ -11,23 +14,26 @@ pub enum Service {
     PartialWrite = 0x4F,
 }
 
-impl Service {
-    pub fn number(self) -> u8
-        ensures { result ≡ service_number self }
-    {
-        self as u8
-    }
+impl From<Service> for u8 {
+    ghost from_gives = { λ service number. number ≡ service_number service };
 
-    pub fn from_number(number: u8) -> Option<Service>
-        ensures equation { result ≡ service_numbered number }
-        ensures reads { Reads service_number number result }
-    {
+    fn from(service: Service) -> u8 {
+        service as u8
+    }
+}
+
+impl TryFrom<u8> for Service {
+    type Error = UnknownNumber;
+
+    ghost try_from_gives = { Numbered service_number service_numbered };
+
+    fn try_from(number: u8) -> Result<Service, UnknownNumber> {
         match number {
-            0x30 => Some(Service::FullRead),
-            0x3F => Some(Service::PartialRead),
-            0x40 => Some(Service::FullWrite),
-            0x4F => Some(Service::PartialWrite),
-            _ => None,
+            0x30 => Ok(Service::FullRead),
+            0x3F => Ok(Service::PartialRead),
+            0x40 => Ok(Service::FullWrite),
+            0x4F => Ok(Service::PartialWrite),
+            _ => Err(UnknownNumber(u16::from(number))),
         }
     }
 }
@@ -39,22 +45,25 @@ pub enum Key {
     Master = 2,
 }
 
-impl Key {
-    pub fn number(self) -> u8
-        ensures { result ≡ key_number self }
-    {
-        self as u8
-    }
+impl From<Key> for u8 {
+    ghost from_gives = { λ key number. number ≡ key_number key };
 
-    // Any other number is no key.
-    pub fn from_number(number: u8) -> Option<Key>
-        ensures equation { result ≡ key_numbered number }
-        ensures reads { Reads key_number number result }
-    {
+    fn from(key: Key) -> u8 {
+        key as u8
+    }
+}
+
+// Any other number is no key.
+impl TryFrom<u8> for Key {
+    type Error = UnknownNumber;
+
+    ghost try_from_gives = { Numbered key_number key_numbered };
+
+    fn try_from(number: u8) -> Result<Key, UnknownNumber> {
         match number {
-            1 => Some(Key::Reader),
-            2 => Some(Key::Master),
-            _ => None,
+            1 => Ok(Key::Reader),
+            2 => Ok(Key::Master),
+            _ => Err(UnknownNumber(u16::from(number))),
         }
     }
 }
@@ -71,10 +80,10 @@ pub enum AnswerCode {
     DataNotReady = 7,
 }
 
-impl AnswerCode {
-    pub fn number(self) -> u8
-        ensures { result ≡ code_number self }
-    {
-        self as u8
+impl From<AnswerCode> for u8 {
+    ghost from_gives = { λ code number. number ≡ code_number code };
+
+    fn from(code: AnswerCode) -> u8 {
+        code as u8
     }
 }

@@ -1,11 +1,12 @@
 -- Plans by their six bytes, and back.
-use Rattle.std.proofs.Common.{◌≡◌, ℕ, ◌+◌, ◌/◌, ◌%◌, ◌<◌, Bool, true, false, cond, ◌&&◌, eqb, ltb, List, [], ◌∷◌, length, get_or, Some, None, Option, sym, refl, ap, subst, ap₂, arith}
+use Rattle.std.proofs.Common.{◌≡◌, ℕ, ◌/◌, ◌%◌, ◌<◌, Bool, true, false, eqb, List, [], ◌∷◌, length, get_or, Some, None, Option, sym, refl, ap, subst, arith}
 use Rattle.std.proofs.lemmas.List.FromFn.{fill_by_all}
-use Rattle.std.proofs.lemmas.Bool.{ltb-true, eqb-true, eqb-false, and_parts, cond-true, cond_both}
+use Rattle.std.proofs.lemmas.Bool.{cond-true}
+use Rattle.std.proofs.lemmas.Bool.Decides.{nat_tests}
 use Rattle.pending.specs.declared.trigger.Trigger.{Trigger}
 use Rattle.pending.specs.declared.trigger.Trigger.TheVariants.{Absolute, Relative, OnCommand}
 use Rattle.pending.specs.declared.plan.Plan.{Plan}
-use Rattle.pending.specs.Triggers.{kind_of, is_well_formed, parts_of, plan_bytes, if_well_formed, on_command_if_zeros, trigger_of, with_self_read, plan_of}
+use Rattle.pending.specs.Triggers.{kind_of, is_well_formed, parts_of, plan_bytes, trigger_of, with_self_read, plan_of}
 use Rattle.pending.specs.Laws.{PlanLaws}
 
 abbrev plan : Trigger → Bool → Plan
@@ -25,55 +26,19 @@ abbrev TriggerOfBytes : ℕ → List ℕ → Option Trigger → Type 0
 TriggerOfBytes kind parts None = Unit {0}
 TriggerOfBytes kind parts (Some t) = (kind_of t ≡ kind) × (parts_of t ≡ parts) × (is_well_formed t ≡ true)
 
-zeros : (a b c d e : ℕ) → (eqb a 0 && (eqb b 0 && (eqb c 0 && (eqb d 0 && eqb e 0)))) ≡ true → ◌≡◌ {A = List ℕ} (0 ∷ 0 ∷ 0 ∷ 0 ∷ 0 ∷ []) (a ∷ b ∷ c ∷ d ∷ e ∷ [])
-zeros a b c d e h =
-    let p = and_parts (eqb a 0) _ h in
-    let q = and_parts (eqb b 0) _ p.1 in
-    let r = and_parts (eqb c 0) _ q.1 in
-    let s = and_parts (eqb d 0) _ r.1 in
-    let ea = eqb-true a 0 p.0 in
-    let eb = eqb-true b 0 q.0 in
-    let ec = eqb-true c 0 r.0 in
-    let ed = eqb-true d 0 s.0 in
-    let ee = eqb-true e 0 s.1 in
-    cc
-
 trigger_of_bytes : (kind a b c d e : ℕ) → TriggerOfBytes kind (a ∷ b ∷ c ∷ d ∷ e ∷ []) (trigger_of kind a b c d e)
-trigger_of_bytes kind a b c d e =
-    let parts : List ℕ = a ∷ b ∷ c ∷ d ∷ e ∷ [] in
-    cond_both (eqb kind 0) (if_well_formed (Absolute a b c d e)) _ (λ o. TriggerOfBytes kind parts o)
-    (λ k.
-    cond_both (is_well_formed (Absolute a b c d e)) (Some (Absolute a b c d e)) None (λ o. TriggerOfBytes kind parts o)
-    (λ w. (sym (eqb-true kind 0 k), refl, w)) (λ w. tt))
-    (λ k.
-    cond_both (eqb kind 1) (Some (Relative a b c d e)) _ (λ o. TriggerOfBytes kind parts o)
-    (λ l. (sym (eqb-true kind 1 l), refl, refl))
-    (λ l.
-    cond_both (eqb kind 2) (on_command_if_zeros a b c d e) None (λ o. TriggerOfBytes kind parts o)
-    (λ m.
-    cond_both (eqb a 0 && (eqb b 0 && (eqb c 0 && (eqb d 0 && eqb e 0)))) (Some OnCommand) None (λ o. TriggerOfBytes kind parts o)
-    (λ z. (sym (eqb-true kind 2 m), zeros a b c d e z, refl)) (λ z. tt))
-    (λ m. tt)))
+trigger_of_bytes kind a b c d e = grind (arith, nat_tests)
 
 abbrev PlanOfBytes : List ℕ → Option Plan → Type 0
 PlanOfBytes bytes None = Unit {0}
 PlanOfBytes bytes (Some p) = (plan_bytes p ≡ bytes) × (is_well_formed p.trigger ≡ true)
 
-first_byte : (kind z : ℕ) → z < 32 → kind ≡ z % 16 → kind + cond (eqb (z / 16) 1) 16 0 ≡ z
-first_byte kind z small k =
-    cond_both (eqb (z / 16) 1) 16 0 (λ n. kind + n ≡ z)
-    (λ e. let is : z / 16 ≡ 1 = eqb-true (z / 16) 1 e in omega arith)
-    (λ e. let ne : z / 16 ≡ 1 → ⊥ = eqb-false (z / 16) 1 e in omega arith)
-
 with_self_read_lem : (z : ℕ) (parts : List ℕ) (o : Option Trigger) → z < 32 → TriggerOfBytes (z % 16) parts o → PlanOfBytes (z ∷ parts) (with_self_read (eqb (z / 16) 1) o)
 with_self_read_lem z parts None small g = tt
-with_self_read_lem z parts (Some t) small g = (ap₂ (λ x (y : List ℕ). x ∷ y) (first_byte (kind_of t) z small g.0) g.1, g.2)
+with_self_read_lem z parts (Some t) small g = grind (arith, nat_tests)
 
 plan_of_six : (z a b c d e : ℕ) → PlanOfBytes (z ∷ a ∷ b ∷ c ∷ d ∷ e ∷ []) (plan_of (z ∷ a ∷ b ∷ c ∷ d ∷ e ∷ []))
-plan_of_six z a b c d e =
-    cond_both (ltb z 32) (with_self_read (eqb (z / 16) 1) (trigger_of (z % 16) a b c d e)) None (λ o. PlanOfBytes (z ∷ a ∷ b ∷ c ∷ d ∷ e ∷ []) o)
-    (λ small. with_self_read_lem z _ (trigger_of (z % 16) a b c d e) (ltb-true z 32 small) (trigger_of_bytes (z % 16) a b c d e))
-    (λ large. tt)
+plan_of_six z a b c d e = let t = trigger_of_bytes (z % 16) a b c d e in grind (arith, nat_tests, with_self_read_lem)
 
 six : (b : List ℕ) → length b ≡ 6 → b ≡ get_or b 0 0 ∷ get_or b 1 0 ∷ get_or b 2 0 ∷ get_or b 3 0 ∷ get_or b 4 0 ∷ get_or b 5 0 ∷ []
 six b long = fill_by_all (λ i. get_or b i 0) b 6 0 long (λ k l. refl)

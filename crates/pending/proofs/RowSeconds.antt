@@ -1,6 +1,7 @@
 -- The seconds of well-formed rows.
-use Rattle.std.proofs.Common.{◌≡◌, ℕ, ◌<◌, true, ltb, leb, Some, sym, refl, subst, arith}
-use Rattle.std.proofs.lemmas.Bool.{ltb-true, leb-true, eqb-true, and_parts, cond-true, false≢true}
+use Rattle.std.proofs.Common.{◌≡◌, ℕ, ◌<◌, true, Some, sym, refl, subst, arith}
+use Rattle.std.proofs.lemmas.Bool.{ltb-true, eqb-true, cond-true, false≢true}
+use Rattle.std.proofs.lemmas.Bool.Decides.{nat_tests}
 use Rattle.calendar.specs.declared.DateTime.{DateTime}
 use Rattle.calendar.specs.Calendar.{seconds_in_all, second_of, Real, is_real, second_if_real, dated}
 use Rattle.calendar.proofs.Whole.{in_range}
@@ -13,20 +14,7 @@ use Rattle.pending.specs.Rows.{due_agrees}
 
 -- a date-time that passes the test is real
 pub real : (t : DateTime) → is_real t ≡ true → Real t
-real t h =
-    let year = and_parts (ltb t.year 100) _ h in
-    let first = and_parts (leb 1 t.month) _ year.1 in
-    let last = and_parts (leb t.month 12) _ first.1 in
-    let from = and_parts (leb 1 t.day) _ last.1 in
-    let to = and_parts (leb t.day _) _ from.1 in
-    let hour = and_parts (ltb t.hour 24) _ to.1 in
-    let rest = and_parts (ltb t.minute 60) _ hour.1 in
-    record {
-      date = record { year = ltb-true _ _ year.0; month = (leb-true _ _ first.0, leb-true _ _ last.0); day = (leb-true _ _ from.0, leb-true _ _ to.0) };
-      hour = ltb-true _ _ hour.0;
-      minute = ltb-true _ _ rest.0;
-      second = ltb-true _ _ rest.1;
-    }
+real t h = grind (arith, nat_tests)
 
 -- a second that agrees with a well-formed trigger is one of the calendar
 pub agreed_second : (t : Trigger) (s : ℕ) → is_well_formed t ≡ true → second_agrees t s ≡ true → s < seconds_in_all

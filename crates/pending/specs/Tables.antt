@@ -1,5 +1,5 @@
 -- The tables that can be staged, in directory order.
-use Rattle.std.specs.Prelude.{ℕ, cond, List, [], ◌∷◌, Some, None, Option, ◌==◌}
+use Rattle.std.specs.Prelude.{◌≡◌, ℕ, cond, List, [], ◌∷◌, Some, None, Option, ◌==◌}
 use Rattle.pending.specs.declared.table.PendingTable.{PendingTable}
 use Rattle.pending.specs.declared.table.PendingTable.TheVariants.{Calendar, Outputs, Override}
 
@@ -23,3 +23,8 @@ first_with number (t ∷ ts) = cond (number == table_number t) (Some t) (first_w
 -- The table that has a number.
 abbrev pub table_of : ℕ → Option PendingTable
 table_of number = first_with number all_tables
+
+-- The number of a table, from which the table can be found again.
+pub record IsNumberOf (table : PendingTable) (number : ℕ) : Type 0 where
+  pub value : number ≡ table_number table
+  pub back : table_of number ≡ Some table

@@ -1,5 +1,6 @@
 -- What a staged table waits for, and its six bytes.
 use Rattle.std.specs.Prelude.{ℕ, ◌+◌, ◌*◌, ◌/◌, ◌%◌, Bool, true, false, cond, ◌&&◌, List, [], ◌∷◌, Some, None, Option, ◌==◌, nat_lt, slice_index}
+use Rattle.calendar.specs.declared.DateTime.{DateTime}
 use Rattle.calendar.specs.Calendar.{seconds_in_all, is_real, second_if_real, dated}
 use Rattle.pending.specs.declared.trigger.Trigger.{Trigger}
 use Rattle.pending.specs.declared.trigger.Trigger.TheVariants.{Absolute, Relative, OnCommand}
@@ -27,6 +28,17 @@ abbrev pub is_well_formed : Trigger → Bool
 is_well_formed (Absolute year month day hour minute) = is_real (dated year month day hour minute 0)
 is_well_formed (Relative weeks days hours minutes seconds) = true
 is_well_formed OnCommand = true
+
+-- What an absolute trigger names: a date-time, and its second if the calendar has it.
+abbrev pub date_named : Trigger → Option DateTime
+date_named (Absolute year month day hour minute) = Some (dated year month day hour minute 0)
+date_named (Relative weeks days hours minutes seconds) = None
+date_named OnCommand = None
+
+abbrev pub second_named : Trigger → Option ℕ
+second_named (Absolute year month day hour minute) = second_if_real (dated year month day hour minute 0)
+second_named (Relative weeks days hours minutes seconds) = None
+second_named OnCommand = None
 
 -- The seconds of a relative trigger.
 abbrev pub span_of : ℕ → ℕ → ℕ → ℕ → ℕ → ℕ

@@ -1,52 +1,56 @@
 // The six bytes at the front of a staging.
-ghost use Rattle.std.specs.Prelude.{◌≡◌, ◌∷◌};
-ghost use Rattle.pending.specs.Triggers.{parts_of, trigger_of, plan_of, plan_bytes};
-ghost use Rattle.pending.specs.Laws.{PlanLaws};
+ghost use Rattle.std.specs.Prelude.{◌≡◌, ◌∷◌, Some, codes, slice_index};
+ghost use Rattle.pending.specs.Triggers.{parts_of, trigger_of, plan_of};
+ghost use Rattle.pending.specs.Laws.{IsReadAs, IsWrittenAs};
 
 use crate::trigger::{ABSOLUTE, ON_COMMAND, RELATIVE, Trigger};
+use std::error::Error;
+use std::fmt;
 
 // What a staged table waits for, and whether a self-read comes before it takes force.
-#[derive(Clone, Copy, PartialEq, Eq)]
+#[derive(Clone, Copy, PartialEq, Eq, Debug)]
 pub struct Plan {
     pub trigger: Trigger,
     pub self_read: bool,
 }
 
-// Does nothing: its contract has the laws of plans and their bytes.
-fn plan_laws_stand()
-    ensures { PlanLaws }
-{}
+// Six bytes that are no plan.
+#[derive(Clone, Copy, PartialEq, Eq, Debug)]
+pub struct NoPlan;
+
+impl fmt::Display for NoPlan {
+    ghost output = { λ _. Some (codes "no plan has these bytes") };
+
+    fn fmt<W: fmt::Write>(&self, f: &mut fmt::Formatter<W>) -> fmt::Result {
+        f.write_str("no plan has these bytes")
+    }
+}
+
+impl Error for NoPlan {}
 
 // The trigger of a kind and five bytes.
-fn trigger_from(kind: u8, a: u8, b: u8, c: u8, d: u8, e: u8) -> Option<Trigger>
-    ensures { result ≡ trigger_of kind a b c d e }
+fn trigger_from(kind: u8, parts: [u8; 5]) -> Option<Trigger>
+    ensures { result ≡ trigger_of kind (slice_index parts 0) (slice_index parts 1) (slice_index parts 2) (slice_index parts 3) (slice_index parts 4) }
 {
-    let trigger = if kind == ABSOLUTE {
-        Trigger::Absolute {
-            year: a,
-            month: b,
-            day: c,
-            hour: d,
-            minute: e,
-        }
-    } else if kind == RELATIVE {
-        Trigger::Relative {
-            weeks: a,
-            days: b,
-            hours: c,
-            minutes: d,
-            seconds: e,
-        }
-    } else if kind == ON_COMMAND && a == 0 && b == 0 && c == 0 && d == 0 && e == 0 {
-        Trigger::OnCommand
-    } else {
-        return None;
+    let trigger = match (kind, parts) {
+        (ABSOLUTE, [year, month, day, hour, minute]) => Trigger::Absolute {
+            year,
+            month,
+            day,
+            hour,
+            minute,
+        },
+        (RELATIVE, [weeks, days, hours, minutes, seconds]) => Trigger::Relative {
+            weeks,
+            days,
+            hours,
+            minutes,
+            seconds,
+        },
+        (ON_COMMAND, [0, 0, 0, 0, 0]) => Trigger::OnCommand,
+        _ => return None,
     };
-    if trigger.is_well_formed() {
-        Some(trigger)
-    } else {
-        None
-    }
+    trigger.is_well_formed().then_some(trigger)
 }
 
 // The six bytes with a given first one.
@@ -72,30 +76,38 @@ fn bytes_from(first: u8, trigger: Trigger) -> [u8; 6]
     }
 }
 
-impl Plan {
-    // The plan of six bytes: the kind in bits 0 to 3 and "self-read first" in bit 4 of the first, then five bytes of the kind. None if they are not well formed.
-    pub fn from_bytes(bytes: [u8; 6]) -> Option<Plan>
-        ensures equation { result ≡ plan_of bytes }
-        ensures laws { PlanLaws }
-    {
-        plan_laws_stand();
-        let [first, a, b, c, d, e] = bytes;
-        if first >= 32 {
-            return None;
-        }
-        let trigger = trigger_from(first % 16, a, b, c, d, e)?;
-        Some(Plan {
-            trigger,
-            self_read: first / 16 == 1,
-        })
+// The plan of six bytes: the kind in bits 0 to 3 and "self-read first" in bit 4 of the first, then five bytes of the kind. None if they are not well formed.
+fn plan_from(bytes: [u8; 6]) -> Option<Plan>
+    ensures { result ≡ plan_of bytes }
+{
+    let [first, a, b, c, d, e] = bytes;
+    if first >= 32 {
+        return None;
     }
+    let trigger = trigger_from(first % 16, [a, b, c, d, e])?;
+    Some(Plan {
+        trigger,
+        self_read: first / 16 == 1,
+    })
+}
 
-    pub fn to_bytes(&self) -> [u8; 6]
-        ensures bytes { result ≡ plan_bytes self.now }
-        ensures laws { PlanLaws }
-    {
-        plan_laws_stand();
-        let flag = if self.self_read { 16 } else { 0 };
-        bytes_from(self.trigger.kind() + flag, self.trigger)
+impl TryFrom<[u8; 6]> for Plan {
+    type Error = NoPlan;
+
+    ghost try_from_gives = { IsReadAs };
+
+    #[tactic(auto, using(crate::proofs::PlanBytes::plan_laws))]
+    fn try_from(bytes: [u8; 6]) -> Result<Plan, NoPlan> {
+        plan_from(bytes).ok_or(NoPlan)
+    }
+}
+
+impl From<Plan> for [u8; 6] {
+    ghost from_gives = { IsWrittenAs };
+
+    #[tactic(auto, using(crate::proofs::PlanBytes::plan_laws))]
+    fn from(plan: Plan) -> [u8; 6] {
+        let flag = if plan.self_read { 16 } else { 0 };
+        bytes_from(plan.trigger.kind() + flag, plan.trigger)
     }
 }

@@ -7,16 +7,12 @@ ghost use Rattle.pending.specs.Laws.{RowLaws};
 use crate::plan::Plan;
 use crate::trigger::Due;
 
-#[derive(Clone, Copy, PartialEq, Eq)]
+// No `Option` of a staging: a row is an enum of its own by a rule of the project, matched and changed in place.
+#[derive(Clone, Copy, PartialEq, Eq, Debug)]
 pub enum Row {
     Empty,
     Waiting { plan: Plan, due: Due },
 }
-
-// Does nothing: its contract has the laws of rows.
-fn row_laws_stand()
-    ensures { RowLaws }
-{}
 
 impl Row {
     // A staging. What waited before is gone.
@@ -24,7 +20,6 @@ impl Row {
         ensures row { self.new ≡ Waiting plan due }
         ensures laws { RowLaws }
     {
-        row_laws_stand();
         *self = Row::Waiting { plan, due };
     }
 
@@ -38,10 +33,7 @@ impl Row {
     pub fn is_waiting(&self) -> bool
         ensures { result ≡ is_waiting self.now }
     {
-        match self {
-            Row::Empty => false,
-            Row::Waiting { .. } => true,
-        }
+        matches!(self, Row::Waiting { .. })
     }
 
     // Whether what waits is to take force at this clock.
@@ -49,17 +41,7 @@ impl Row {
         ensures test { result ≡ is_due self.now clock }
         ensures meaning { MatchBool result (HasComeDue self.now clock) (HasComeDue self.now clock → ⊥) }
     {
-        match *self {
-            Row::Waiting {
-                due: Due::At(second),
-                ..
-            } => second <= clock,
-            Row::Waiting {
-                due: Due::ByCommand,
-                ..
-            } => false,
-            Row::Empty => false,
-        }
+        matches!(*self, Row::Waiting { due: Due::At(second), .. } if second <= clock)
     }
 
     // The six trigger bytes as they were sent, and zeros where nothing waits.
@@ -68,7 +50,7 @@ impl Row {
     {
         match *self {
             Row::Empty => [0; 6],
-            Row::Waiting { plan, .. } => plan.to_bytes(),
+            Row::Waiting { plan, .. } => plan.into(),
         }
     }
 }

@@ -1,8 +1,12 @@
 // The tables that can be staged.
-ghost use Rattle.std.specs.Prelude.{◌≡◌, Some, slice_index_or};
-ghost use Rattle.pending.specs.Tables.{table_number, table_index, table_of};
+ghost use Rattle.std.specs.Prelude.{◌≡◌, ◌++◌, Some, codes, ok_or, slice_index_or};
+ghost use Rattle.std.specs.Fmt.{decimal};
+ghost use Rattle.pending.specs.Tables.{IsNumberOf, table_index, table_of};
 
-#[derive(Clone, Copy, PartialEq, Eq)]
+use std::error::Error;
+use std::fmt;
+
+#[derive(Clone, Copy, PartialEq, Eq, Debug)]
 pub enum PendingTable {
     Calendar,
     Outputs,
@@ -17,18 +21,6 @@ impl PendingTable {
         PendingTable::Override,
     ];
 
-    // Its table number, from which it can be found again.
-    pub fn number(self) -> u16
-        ensures value { result ≡ table_number self }
-        ensures back { table_of result ≡ Some self }
-    {
-        match self {
-            PendingTable::Calendar => 54,
-            PendingTable::Outputs => 2053,
-            PendingTable::Override => 2095,
-        }
-    }
-
     // Its place in directory order, from 0.
     pub fn index(self) -> usize
         ensures value { result ≡ table_index self }
@@ -40,19 +32,47 @@ impl PendingTable {
             PendingTable::Override => 2,
         }
     }
+}
 
-    // The table that has a number.
-    pub fn from_number(number: u16) -> Option<PendingTable>
-        ensures { result ≡ table_of number }
-    {
-        if number == PendingTable::Calendar.number() {
-            Some(PendingTable::Calendar)
-        } else if number == PendingTable::Outputs.number() {
-            Some(PendingTable::Outputs)
-        } else if number == PendingTable::Override.number() {
-            Some(PendingTable::Override)
-        } else {
-            None
+// Its table number, from which it can be found again.
+impl From<PendingTable> for u16 {
+    ghost from_gives = { IsNumberOf };
+
+    fn from(table: PendingTable) -> u16 {
+        match table {
+            PendingTable::Calendar => 54,
+            PendingTable::Outputs => 2053,
+            PendingTable::Override => 2095,
+        }
+    }
+}
+
+// A number of no table that can be staged.
+#[derive(Clone, Copy, PartialEq, Eq, Debug)]
+pub struct NotStaged(pub u16);
+
+impl fmt::Display for NotStaged {
+    ghost output = { λ e. Some (codes "table " ++ decimal e.0 ++ codes " cannot be staged") };
+
+    fn fmt<W: fmt::Write>(&self, f: &mut fmt::Formatter<W>) -> fmt::Result {
+        write!(f, "table {} cannot be staged", self.0)
+    }
+}
+
+impl Error for NotStaged {}
+
+// The table that has a number.
+impl TryFrom<u16> for PendingTable {
+    type Error = NotStaged;
+
+    ghost try_from_gives = { λ number r. r ≡ ok_or (table_of number) (record { 0 = number }) };
+
+    fn try_from(number: u16) -> Result<PendingTable, NotStaged> {
+        match number {
+            54 => Ok(PendingTable::Calendar),
+            2053 => Ok(PendingTable::Outputs),
+            2095 => Ok(PendingTable::Override),
+            _ => Err(NotStaged(number)),
         }
     }
 }

@@ -1,18 +1,17 @@
 // What a staged table waits for.
 ghost use Rattle.std.specs.Prelude.{◌≡◌, ◌<◌};
-ghost use Rattle.calendar.specs.Calendar.{dated};
-ghost use Rattle.pending.specs.Triggers.{kind_of, is_well_formed, span_of, due_when, due_of, second_agrees, second_of_due};
+ghost use Rattle.pending.specs.Triggers.{kind_of, date_named, second_named, is_well_formed, span_of, due_when, due_of, second_agrees, second_of_due};
 
 use calendar::{DateTime, seconds};
 
-// The numbers of the kinds.
+// The numbers of the kinds in bytes. No enum: the kinds are the variants of `Trigger`, and a second one would be read only to choose one.
 pub(crate) const ABSOLUTE: u8 = 0;
 
 pub(crate) const RELATIVE: u8 = 1;
 
 pub(crate) const ON_COMMAND: u8 = 2;
 
-#[derive(Clone, Copy, PartialEq, Eq)]
+#[derive(Clone, Copy, PartialEq, Eq, Debug)]
 pub enum Trigger {
     // A date-time, at second 0.
     Absolute {
@@ -34,27 +33,13 @@ pub enum Trigger {
     OnCommand,
 }
 
-// When a staged table takes force.
-#[derive(Clone, Copy, PartialEq, Eq)]
+// When a staged table takes force. No `Option<u32>`: `due` would answer one inside another.
+#[derive(Clone, Copy, PartialEq, Eq, Debug)]
 pub enum Due {
     // As soon as the clock is not below this second.
     At(u32),
     // Never by itself.
     ByCommand,
-}
-
-// The date-time of an absolute trigger.
-fn named(year: u8, month: u8, day: u8, hour: u8, minute: u8) -> DateTime
-    ensures { result ≡ dated year month day hour minute 0 }
-{
-    DateTime {
-        year,
-        month,
-        day,
-        hour,
-        minute,
-        second: 0,
-    }
 }
 
 // The seconds of a relative trigger.
@@ -69,6 +54,29 @@ fn span(weeks: u8, days: u8, hours: u8, minutes: u8, seconds: u8) -> u32
 }
 
 impl Trigger {
+    // The date-time that an absolute trigger names.
+    fn date(&self) -> Option<DateTime>
+        ensures { result ≡ date_named self.now }
+    {
+        match *self {
+            Trigger::Absolute {
+                year,
+                month,
+                day,
+                hour,
+                minute,
+            } => Some(DateTime {
+                year,
+                month,
+                day,
+                hour,
+                minute,
+                second: 0,
+            }),
+            _ => None,
+        }
+    }
+
     // The number that stands for its kind.
     pub fn kind(&self) -> u8
         ensures { result ≡ kind_of self.now }
@@ -80,20 +88,20 @@ impl Trigger {
         }
     }
 
+    // The second that an absolute trigger names, if the calendar has it.
+    fn second(&self) -> Option<u32>
+        ensures { result ≡ second_named self.now }
+    {
+        self.date()?.to_second()
+    }
+
     // Whether it can be staged at some clock: a date-time has to be real.
     pub fn is_well_formed(&self) -> bool
         ensures { result ≡ is_well_formed self.now }
     {
-        match *self {
-            Trigger::Absolute {
-                year,
-                month,
-                day,
-                hour,
-                minute,
-            } => named(year, month, day, hour, minute).is_real(),
-            Trigger::Relative { .. } => true,
-            Trigger::OnCommand => true,
+        match self.date() {
+            Some(date) => date.is_real(),
+            None => true,
         }
     }
 
@@ -102,14 +110,8 @@ impl Trigger {
         ensures { result ≡ due_when self.now clock }
     {
         match *self {
-            Trigger::Absolute {
-                year,
-                month,
-                day,
-                hour,
-                minute,
-            } => {
-                let second = named(year, month, day, hour, minute).to_second()?;
+            Trigger::Absolute { .. } => {
+                let second = self.second()?;
                 Some(Due::At(second))
             }
             Trigger::Relative {
@@ -120,11 +122,7 @@ impl Trigger {
                 seconds: rest,
             } => {
                 let second = clock.checked_add(span(weeks, days, hours, minutes, rest))?;
-                if second < seconds() {
-                    Some(Due::At(second))
-                } else {
-                    None
-                }
+                (second < seconds()).then_some(Due::At(second))
             }
             Trigger::OnCommand => Some(Due::ByCommand),
         }
@@ -135,16 +133,7 @@ impl Trigger {
         ensures { result ≡ second_agrees self.now second }
     {
         match *self {
-            Trigger::Absolute {
-                year,
-                month,
-                day,
-                hour,
-                minute,
-            } => match named(year, month, day, hour, minute).to_second() {
-                Some(at) => at == second,
-                None => false,
-            },
+            Trigger::Absolute { .. } => self.second() == Some(second),
             Trigger::Relative { .. } => second < seconds(),
             Trigger::OnCommand => second == 0,
         }

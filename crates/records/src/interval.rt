@@ -5,14 +5,11 @@ ghost use Rattle.records.specs.Readings.{interval_back};
 ghost use Rattle.records.specs.Wholes.{interval_only};
 
 use crate::kind::Record;
-use crate::layout::{date_in, fill_interval};
+use crate::layout::date_in;
 use crate::status::Status;
 use calendar::DateTime;
-use fields::bytes::get8;
-use fields::little::get32;
-
-// The bytes of a record.
-const LENGTH: usize = 11;
+use fields::bytes::{get8, put_bytes, put8};
+use fields::little::{get32, put32};
 
 #[derive(Clone, Copy, PartialEq, Eq, Debug)]
 pub struct Interval {
@@ -22,7 +19,9 @@ pub struct Interval {
 }
 
 impl Record for Interval {
-    ghost width = { 11 };
+    const WIDTH: usize = 11;
+
+    ghost WIDTH = { 11 };
 
     ghost bytes = { interval_bytes };
 
@@ -38,16 +37,15 @@ impl Record for Interval {
 
     ghost only = { interval_only };
 
-    fn width() -> usize {
-        LENGTH
-    }
-
+    #[tactic(auto, using(crate::proofs::Fills::in_turn), unfolding(crate::specs::Layouts::interval_layout))]
     fn write(&self, slot: &mut [u8]) {
-        fill_interval(slot, self.at, self.total, self.status.to_byte());
+        put_bytes(slot, 0, &<[u8; 6]>::from(self.at));
+        put32(slot, 6, self.total);
+        put8(slot, 10, self.status.into());
     }
 
     fn read(slot: &[u8]) -> Option<Interval> {
-        let status = Status::from_byte(get8(slot, 10))?;
+        let status = Status::try_from(get8(slot, 10)).ok()?;
         Some(Interval {
             at: date_in(slot),
             total: get32(slot, 6),

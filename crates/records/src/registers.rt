@@ -1,6 +1,6 @@
 // The energy registers: the total, and one for each tier.
 ghost use Rattle.std.specs.Prelude.{◌≡◌, ◌+◌, ◌≤◌, length};
-ghost use Rattle.records.specs.Layouts.{five_words, register_bytes, registers_at, RegistersFit};
+ghost use Rattle.records.specs.Layouts.{registers_at, IsWrittenAs};
 
 use fields::little::{get32, put32};
 
@@ -13,26 +13,22 @@ pub struct Registers {
     pub tier4: u32,
 }
 
-fn five_words(a: u32, b: u32, c: u32, d: u32, e: u32) -> [u8; 20]
-    ensures { result ≡ five_words a b c d e }
-{
-    let mut bytes = [0u8; 20];
-    put32(&mut bytes, 0, a);
-    put32(&mut bytes, 4, b);
-    put32(&mut bytes, 8, c);
-    put32(&mut bytes, 12, d);
-    put32(&mut bytes, 16, e);
-    bytes
+impl From<Registers> for [u8; 20] {
+    ghost from_gives = { IsWrittenAs };
+
+    #[tactic(auto, using(crate::proofs::Fills::in_turn), unfolding(crate::specs::Layouts::five_words))]
+    fn from(registers: Registers) -> [u8; 20] {
+        let mut bytes = [0u8; 20];
+        put32(&mut bytes, 0, registers.total);
+        put32(&mut bytes, 4, registers.tier1);
+        put32(&mut bytes, 8, registers.tier2);
+        put32(&mut bytes, 12, registers.tier3);
+        put32(&mut bytes, 16, registers.tier4);
+        bytes
+    }
 }
 
 impl Registers {
-    pub fn to_bytes(&self) -> [u8; 20]
-        ensures bytes { result ≡ register_bytes self.now }
-        ensures fit { RegistersFit self.now }
-    {
-        five_words(self.total, self.tier1, self.tier2, self.tier3, self.tier4)
-    }
-
     // The registers in the 20 bytes from a place on.
     pub fn read_at(bytes: &[u8], at: usize) -> Registers
         requires { at + 20 ≤ length bytes.now }

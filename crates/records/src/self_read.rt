@@ -5,12 +5,10 @@ ghost use Rattle.records.specs.Readings.{self_read_back};
 ghost use Rattle.records.specs.Wholes.{self_read_only};
 
 use crate::kind::Record;
-use crate::layout::{date_in, fill_self_read};
+use crate::layout::date_in;
 use crate::registers::Registers;
 use calendar::DateTime;
-
-// The bytes of a record.
-const LENGTH: usize = 26;
+use fields::bytes::put_bytes;
 
 #[derive(Clone, Copy, PartialEq, Eq, Debug)]
 pub struct SelfRead {
@@ -19,7 +17,9 @@ pub struct SelfRead {
 }
 
 impl Record for SelfRead {
-    ghost width = { 26 };
+    const WIDTH: usize = 26;
+
+    ghost WIDTH = { 26 };
 
     ghost bytes = { self_read_bytes };
 
@@ -35,12 +35,10 @@ impl Record for SelfRead {
 
     ghost only = { self_read_only };
 
-    fn width() -> usize {
-        LENGTH
-    }
-
+    #[tactic(auto, using(crate::proofs::Fills::in_turn), unfolding(crate::specs::Layouts::self_read_layout))]
     fn write(&self, slot: &mut [u8]) {
-        fill_self_read(slot, self.at, &self.registers.to_bytes());
+        put_bytes(slot, 0, &<[u8; 6]>::from(self.at));
+        put_bytes(slot, 6, &<[u8; 20]>::from(self.registers));
     }
 
     fn read(slot: &[u8]) -> Option<SelfRead> {

@@ -1,7 +1,10 @@
 // The status of an interval record, a byte of two flags.
-ghost use Rattle.std.specs.Prelude.{◌≡◌};
-ghost use Rattle.records.specs.Statuses.{status_byte, status_of};
-ghost use Rattle.records.specs.Codes.{Reads};
+ghost use Rattle.std.specs.Prelude.{◌≡◌, ◌++◌, Some, codes};
+ghost use Rattle.std.specs.Fmt.{decimal};
+ghost use Rattle.records.specs.Statuses.{status_byte, IsStatusOf};
+
+use std::error::Error;
+use std::fmt;
 
 // What happened since the previous interval record.
 #[derive(Clone, Copy, PartialEq, Eq, Debug)]
@@ -10,30 +13,41 @@ pub struct Status {
     pub clock_set: bool,
 }
 
-// Does nothing: its contract says that reading a status byte back gives the status, and only that.
-fn byte_stands(byte: u8)
-    ensures { Reads status_byte byte (status_of byte) }
-{}
+impl From<Status> for u8 {
+    ghost from_gives = { λ status byte. byte ≡ status_byte status };
 
-impl Status {
-    pub fn to_byte(self) -> u8
-        ensures { result ≡ status_byte self }
-    {
-        let started = if self.started { 1 } else { 0 };
-        let clock_set = if self.clock_set { 2 } else { 0 };
+    fn from(status: Status) -> u8 {
+        let started = if status.started { 1 } else { 0 };
+        let clock_set = if status.clock_set { 2 } else { 0 };
         started + clock_set
     }
+}
 
-    // The status of a byte; none if an unused bit is set.
-    pub fn from_byte(byte: u8) -> Option<Status>
-        ensures equation { result ≡ status_of byte }
-        ensures reads { Reads status_byte byte result }
-    {
-        byte_stands(byte);
+// A byte in which an unused bit is set.
+#[derive(Clone, Copy, PartialEq, Eq, Debug)]
+pub struct NoStatus(pub u8);
+
+impl fmt::Display for NoStatus {
+    ghost output = { λ e. Some (codes "no status has the byte " ++ decimal e.0) };
+
+    fn fmt<W: fmt::Write>(&self, f: &mut fmt::Formatter<W>) -> fmt::Result {
+        write!(f, "no status has the byte {}", self.0)
+    }
+}
+
+impl Error for NoStatus {}
+
+impl TryFrom<u8> for Status {
+    type Error = NoStatus;
+
+    ghost try_from_gives = { IsStatusOf };
+
+    #[tactic(auto, using(crate::specs::Readings::status_reads))]
+    fn try_from(byte: u8) -> Result<Status, NoStatus> {
         if byte >= 4 {
-            return None;
+            return Err(NoStatus(byte));
         }
-        Some(Status {
+        Ok(Status {
             started: byte % 2 == 1,
             clock_set: byte / 2 == 1,
         })

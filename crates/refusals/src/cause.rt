@@ -29,13 +29,15 @@ pub enum Cause {
     NotReady = 14,
 }
 
-impl Cause {
-    pub fn number(self) -> u8
-        ensures { result ≡ cause_number self }
-    {
-        self as u8
-    }
+impl From<Cause> for u8 {
+    ghost from_gives = { λ cause number. number ≡ cause_number cause };
 
+    fn from(cause: Cause) -> u8 {
+        cause as u8
+    }
+}
+
+impl Cause {
     pub fn layer(self) -> Layer
         ensures { result ≡ layer_of self }
     {

@@ -71,7 +71,7 @@ impl Refusal for MeterFault {
     fn place(&self) -> u32 {
         match self {
             MeterFault::Memory(e) => e.place(),
-            MeterFault::LogLimit(log) => u32::from(log.number()),
+            MeterFault::LogLimit(log) => u32::from(u8::from(*log)),
             _ => 0,
         }
     }

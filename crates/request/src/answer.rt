@@ -47,7 +47,7 @@ fn enclose(answer: &mut [u8], code: AnswerCode, count: u16, check: u8)
     requires { count + 4 ≤ length answer.old }
     ensures { answer.new ≡ overlay (code_number code ∷ (be_bytes 2 (length (part count 3 answer.old)) ++ (part count 3 answer.old ++ (check ∷ [])))) answer.old }
 {
-    put8(answer, 0, code.number());
+    put8(answer, 0, u8::from(code));
     put16(answer, 1, count);
     put8(answer, 3 + count as usize, check);
 }
@@ -67,7 +67,7 @@ pub fn put_code(answer: &mut [u8], code: AnswerCode)
     requires { 0 < length answer.old }
     ensures { answer.new ≡ overlay (code_number code ∷ []) answer.old }
 {
-    put_front(answer, &[code.number()]);
+    put_front(answer, &[u8::from(code)]);
 }
 
 // The code of a refusal, if it has one.

@@ -134,12 +134,12 @@ fn by_service(bytes: &[u8]) -> Result<Request<'_>, ServiceFault>
     if bytes.len() == 0 {
         return Err(ServiceFault::Malformed);
     }
-    match Service::from_number(bytes[0]) {
-        Some(Service::FullRead) => full_read(bytes),
-        Some(Service::PartialRead) => partial_read(bytes),
-        Some(Service::FullWrite) => full_write(bytes),
-        Some(Service::PartialWrite) => partial_write(bytes),
-        None => Err(ServiceFault::UnknownService),
+    match Service::try_from(bytes[0]) {
+        Ok(Service::FullRead) => full_read(bytes),
+        Ok(Service::PartialRead) => partial_read(bytes),
+        Ok(Service::FullWrite) => full_write(bytes),
+        Ok(Service::PartialWrite) => partial_write(bytes),
+        Err(_) => Err(ServiceFault::UnknownService),
     }
 }
 

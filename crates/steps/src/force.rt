@@ -60,7 +60,7 @@ fn take_force<M: BlockMemory>(
     let mut room = [0u8; CALENDAR];
     bring_in(memory, table, &mut room[0..staged_length(table) as usize]);
     spend_row(head, table, clock);
-    note(memory, head, clock, Event::PendingActivated(table.number()));
+    note(memory, head, clock, Event::PendingActivated(table.into()));
 }
 
 // The row of a table takes force if one waits; whether one did.

@@ -41,7 +41,7 @@ fn view_part(
     match view {
         View::PendingStatus => copy_part(&pending_status(head), from, out),
         View::Response => copy_part(&response_bytes(response), from, out),
-        View::Registers => copy_part(&head.registers.to_bytes(), from, out),
+        View::Registers => copy_part(&<[u8; 20]>::from(head.registers), from, out),
         View::Clock => copy_part(&date_bytes(clock), from, out),
     }
 }

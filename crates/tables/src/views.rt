@@ -18,7 +18,7 @@ pub(crate) fn date_bytes(second: u32) -> [u8; 6]
     ensures { result ≡ bytes_of (date_of second) }
 {
     match from_second(second) {
-        Some(date) => date.to_bytes(),
+        Some(date) => date.into(),
         None => [0; 6],
     }
 }
@@ -54,7 +54,7 @@ fn row_shown(table: PendingTable, row: Row) -> [u8; 8]
     let mut bytes = [0u8; 8];
     if row.is_waiting() {
         put_bytes(&mut bytes, 0, &row.trigger_bytes());
-        put16(&mut bytes, 6, table.number());
+        put16(&mut bytes, 6, table.into());
     }
     bytes
 }
@@ -91,7 +91,7 @@ pub(crate) fn response_bytes(response: Option<Response>) -> [u8; 4]
         None => [0; 4],
         Some(left) => {
             let [low, high] = left.procedure.to_le_bytes();
-            [low, high, left.sequence, left.result.number()]
+            [low, high, left.sequence, u8::from(left.result)]
         }
     }
 }

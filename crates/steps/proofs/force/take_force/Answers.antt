@@ -20,9 +20,9 @@ returns g c =
       blocks = c.bring_in.ensures.blocks ∙ ap (brought_in table) c.take_self_read_if.ensures.blocks;
       any = refl;
     } in
-    let event = PendingActivated c.number.result in
+    let event = PendingActivated c.into.result in
     let done = onward (noted clock event) (noted_steady clock event) spent before (record { head = c.note.ensures.head; blocks = c.note.ensures.blocks; any = refl }) in
-    let same = ap (λ n. noted clock (PendingActivated n) spent) c.number.ensures.value in
+    let same = ap (λ n. noted clock (PendingActivated n) spent) c.into.ensures.value in
     record {
       head = done.head ∙ ap (λ (x : Going). x.head) same;
       blocks = done.blocks ∙ ap (λ (x : Going). x.blocks) same;
