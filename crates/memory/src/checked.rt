@@ -13,7 +13,8 @@ use crate::fault::MemoryFault;
 use crate::memory::BlockMemory;
 use crate::runs::block_count;
 use fields::bytes::put_bytes;
-use fields::little::{get16, put16};
+use fields::order::Little;
+use fields::words::{get16, put16};
 
 // The bytes of a block, of its content, and so the place of its checksum.
 const RUN: usize = 512;
@@ -31,7 +32,7 @@ fn fits(bytes: &[u8], block: u32) -> bool
     ensures { result ≡ (stored_checksum bytes.now block == checksum_of block (content_at bytes.now block)) }
 {
     let at = block as usize * RUN;
-    get16(bytes, at + CONTENT) == checksum(block, &bytes[at..at + CONTENT])
+    get16::<Little>(bytes, at + CONTENT) == checksum(block, &bytes[at..at + CONTENT])
 }
 
 // The lowest block below a number whose stored checksum is not that of its content.
@@ -70,7 +71,7 @@ fn replace_run(bytes: &mut [u8], block: u32, content: &[u8])
 {
     let at = block as usize * RUN;
     put_bytes(bytes, at, content);
-    put16(bytes, at + CONTENT, checksum(block, content));
+    put16::<Little>(bytes, at + CONTENT, checksum(block, content));
 }
 
 impl<'a> CheckedImage<'a> {

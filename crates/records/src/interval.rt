@@ -9,7 +9,8 @@ use crate::layout::{date_in, fill_interval};
 use crate::status::Status;
 use calendar::DateTime;
 use fields::bytes::get8;
-use fields::little::get32;
+use fields::order::Little;
+use fields::words::get32;
 
 // The bytes of a record.
 const LENGTH: usize = 11;
@@ -50,7 +51,7 @@ impl Record for Interval {
         let status = Status::from_byte(get8(slot, 10))?;
         Some(Interval {
             at: date_in(slot),
-            total: get32(slot, 6),
+            total: get32::<Little>(slot, 6),
             status,
         })
     }

@@ -2,7 +2,8 @@
 ghost use Rattle.std.specs.Prelude.{◌≡◌, ◌+◌, ◌≤◌, length};
 ghost use Rattle.records.specs.Layouts.{five_words, register_bytes, registers_at, RegistersFit};
 
-use fields::little::{get32, put32};
+use fields::order::Little;
+use fields::words::{get32, put32};
 
 #[derive(Clone, Copy, PartialEq, Eq, Debug)]
 pub struct Registers {
@@ -17,11 +18,11 @@ fn five_words(a: u32, b: u32, c: u32, d: u32, e: u32) -> [u8; 20]
     ensures { result ≡ five_words a b c d e }
 {
     let mut bytes = [0u8; 20];
-    put32(&mut bytes, 0, a);
-    put32(&mut bytes, 4, b);
-    put32(&mut bytes, 8, c);
-    put32(&mut bytes, 12, d);
-    put32(&mut bytes, 16, e);
+    put32::<Little>(&mut bytes, 0, a);
+    put32::<Little>(&mut bytes, 4, b);
+    put32::<Little>(&mut bytes, 8, c);
+    put32::<Little>(&mut bytes, 12, d);
+    put32::<Little>(&mut bytes, 16, e);
     bytes
 }
 
@@ -39,11 +40,11 @@ impl Registers {
         ensures { result ≡ registers_at at bytes.now }
     {
         Registers {
-            total: get32(bytes, at),
-            tier1: get32(bytes, at + 4),
-            tier2: get32(bytes, at + 8),
-            tier3: get32(bytes, at + 12),
-            tier4: get32(bytes, at + 16),
+            total: get32::<Little>(bytes, at),
+            tier1: get32::<Little>(bytes, at + 4),
+            tier2: get32::<Little>(bytes, at + 8),
+            tier3: get32::<Little>(bytes, at + 12),
+            tier4: get32::<Little>(bytes, at + 16),
         }
     }
 }
