@@ -1,8 +1,8 @@
 -- What is read of a ready memory, and that a write keeps it ready.
-use Rattle.std.proofs.Common.{◌≡◌, ℕ, zero, suc, ◌+◌, ◌<◌, List, [], ◌∷◌, length, get_or, take, set, None, refl, ap, ◌∙◌, arith}
+use Rattle.std.proofs.Common.{◌≡◌, ℕ, zero, suc, ◌+◌, ◌<◌, ◌≤◌, List, [], ◌∷◌, length, get_or, take, set, None, refl, ap, ◌∙◌, arith}
 use Rattle.std.proofs.lemmas.List.{length-set}
 use Rattle.std.proofs.lemmas.Bool.{lt-ltb, cond-true}
-use Rattle.memory.specs.Blocks.{Block, sound, corrupt, content_or, corrupt_from, WholeBlock, Whole}
+use Rattle.memory.specs.Blocks.{Block, sound, corrupt, content_or, corrupt_from, lowest_corrupt, WholeBlock, Whole}
 use Rattle.memory.specs.Verdicts.{read_content, written}
 use Rattle.access.specs.Ready.{needed, Ready, content_of, stored}
 
@@ -34,6 +34,18 @@ ready_written bs ready k h c = cond-true _ _ _ (lt-ltb k (length bs) (omega (ari
 
 pub ready_stored : (bs : List Block) (k : ℕ) (c : List ℕ) → Ready bs → Ready (stored bs k c)
 ready_stored bs k c ready = record { enough = rw length-set ready.enough; clean = clean_set 0 needed k bs c ready.clean }
+
+ready_kept : (bs : List Block) (k : ℕ) (c : List ℕ) → Ready bs → k < needed → Ready (written bs k c)
+ready_kept bs k c ready h = rw (ready_written bs ready k h c) (ready_stored bs k c ready)
+
+pub ready_enough : (bs : List Block) (k : ℕ) (c : List ℕ) → Ready bs → k < needed → needed ≤ length (written bs k c)
+ready_enough bs k c ready h = (ready_kept bs k c ready h).enough
+
+pub ready_clean : (bs : List Block) (k : ℕ) (c : List ℕ) → Ready bs → k < needed → lowest_corrupt needed (written bs k c) ≡ None
+ready_clean bs k c ready h = (ready_kept bs k c ready h).clean
+
+-- what `store` leans on
+pub ruleset storing = (ready_written, ready_enough, ready_clean)
 
 -- a content of a ready memory has 510 bytes
 whole_at : (k : ℕ) (bs : List Block) → Whole bs → WholeBlock (get_or bs k corrupt)

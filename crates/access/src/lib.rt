@@ -5,7 +5,7 @@ ghost use Rattle.std.specs.Prelude.{◌≡◌, ◌<◌, length, OnOk};
 ghost use Rattle.access.specs.Ready.{needed, Ready, content_of, stored, ready_verdict, size_verdict};
 
 use memory::fault::MemoryFault;
-use memory::memory::BlockMemory;
+use memory::memory::{BlockMemory, CONTENT};
 
 // How many blocks a meter needs.
 pub const NEEDED: u32 = 27;
@@ -33,42 +33,23 @@ pub fn check_blocks<M: BlockMemory>(memory: &M) -> Result<(), MemoryFault>
     }
 }
 
-fn read_ready<M: BlockMemory>(memory: &M, block: u32, content: &mut [u8])
+// The content of a block, into a buffer.
+#[tactic(auto, using(crate::proofs::Readiness::ready_content))]
+pub fn load<M: BlockMemory>(memory: &M, block: u32, content: &mut [u8; CONTENT])
     requires ready { Ready (M.BlockMemory.blocks memory.now) }
     requires below { block < needed }
-    requires long { length content.old ≡ 510 }
-    ensures { content.new ≡ content_of (M.BlockMemory.blocks memory.now) block }
+    ensures content { content.new ≡ content_of (M.BlockMemory.blocks memory.now) block }
 {
     let _ = memory.read(block, content);
 }
 
-fn write_ready<M: BlockMemory>(memory: &mut M, block: u32, content: &[u8])
+// A new content for a block. The memory stays ready.
+#[tactic(auto, using(crate::proofs::Readiness::storing))]
+pub fn store<M: BlockMemory>(memory: &mut M, block: u32, content: &[u8; CONTENT])
     requires ready { Ready (M.BlockMemory.blocks memory.old) }
     requires below { block < needed }
-    requires long { length content.now ≡ 510 }
     ensures blocks { M.BlockMemory.blocks memory.new ≡ stored (M.BlockMemory.blocks memory.old) block content.now }
     ensures ready { Ready (M.BlockMemory.blocks memory.new) }
 {
     let _ = memory.write(block, content);
-}
-
-// The content of a block, into a buffer of 510 bytes.
-pub fn load<M: BlockMemory>(memory: &M, block: u32, content: &mut [u8])
-    requires ready { Ready (M.BlockMemory.blocks memory.now) }
-    requires below { block < needed }
-    requires long { length content.old ≡ 510 }
-    ensures content { content.new ≡ content_of (M.BlockMemory.blocks memory.now) block }
-{
-    read_ready(memory, block, content);
-}
-
-// A new content for a block, from a buffer of 510 bytes. The memory stays ready.
-pub fn store<M: BlockMemory>(memory: &mut M, block: u32, content: &[u8])
-    requires ready { Ready (M.BlockMemory.blocks memory.old) }
-    requires below { block < needed }
-    requires long { length content.now ≡ 510 }
-    ensures blocks { M.BlockMemory.blocks memory.new ≡ stored (M.BlockMemory.blocks memory.old) block content.now }
-    ensures ready { Ready (M.BlockMemory.blocks memory.new) }
-{
-    write_ready(memory, block, content);
 }

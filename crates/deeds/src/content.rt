@@ -16,7 +16,7 @@ use access::load;
 use directory::entry::Source;
 use directory::staged::{current_block, staged_length};
 use fields::bytes::put_bytes;
-use memory::memory::BlockMemory;
+use memory::memory::{BlockMemory, CONTENT};
 use pending::plan::Plan;
 use pending::table::PendingTable;
 use pending::trigger::Due;
@@ -60,11 +60,10 @@ fn is_right_after<M: BlockMemory>(
     table: PendingTable,
     from: usize,
     content: &[u8],
-    work: &mut [u8],
+    work: &mut [u8; CONTENT],
 ) -> bool
     requires ready { Ready (M.BlockMemory.blocks memory.now) }
     requires inside { from + length content.now ≤ staged_length table }
-    requires long { length work.old ≡ 510 }
     ensures { result ≡ is_right table (patch from content.now (current_table table (M.BlockMemory.blocks memory.now))) }
 {
     load(memory, current_block(table), work);
@@ -77,11 +76,10 @@ fn check_write<M: BlockMemory>(
     table: PendingTable,
     from: usize,
     content: &[u8],
-    work: &mut [u8],
+    work: &mut [u8; CONTENT],
 ) -> Result<(), ServiceFault>
     requires ready { Ready (M.BlockMemory.blocks memory.now) }
     requires inside { from + length content.now ≤ staged_length table }
-    requires long { length work.old ≡ 510 }
     ensures { result ≡ ruled (is_right table (patch from content.now (current_table table (M.BlockMemory.blocks memory.now)))) }
 {
     rule(is_right_after(memory, table, from, content, work))
@@ -101,11 +99,10 @@ fn check_rules<M: BlockMemory>(
     memory: &M,
     deed: &Deed,
     clock: u32,
-    work: &mut [u8],
+    work: &mut [u8; CONTENT],
 ) -> Result<(), ServiceFault>
     requires ready { Ready (M.BlockMemory.blocks memory.now) }
     requires safe { Safe (deed_of deed.now) }
-    requires long { length work.old ≡ 510 }
     ensures { result ≡ content_verdict (deed_of deed.now) clock (M.BlockMemory.blocks memory.now) }
 {
     match *deed {
@@ -132,11 +129,10 @@ pub fn check_content<M: BlockMemory>(
     memory: &M,
     deed: &Deed,
     clock: u32,
-    work: &mut [u8],
+    work: &mut [u8; CONTENT],
 ) -> Result<(), ServiceFault>
     requires ready { Ready (M.BlockMemory.blocks memory.now) }
     requires safe { Safe (deed_of deed.now) }
-    requires long { length work.old ≡ 510 }
     ensures { result ≡ content_verdict (deed_of deed.now) clock (M.BlockMemory.blocks memory.now) }
 {
     check_rules(memory, deed, clock, work)

@@ -1,6 +1,7 @@
 -- A number by its bytes, and back.
-use Rattle.std.proofs.Common.{◌≡◌, ℕ, zero, suc, ◌+◌, ◌*◌, ◌/◌, ◌%◌, ◌^◌, ◌<◌, ◌≤◌, List, [], ◌∷◌, length, get_or, take, refl, ap, ◌∙◌, pow-suc, arith}
+use Rattle.std.proofs.Common.{◌≡◌, ℕ, zero, suc, ◌+◌, ◌/◌, ◌%◌, ◌^◌, ◌<◌, ◌≤◌, List, [], ◌∷◌, length, get_or, take, refl, ap, ◌∙◌, arith}
 use Rattle.std.proofs.lemmas.List.{drop_more}
+use Rattle.fields.specs.Orders.{le_back}
 use Rattle.fields.specs.Words.{part, le_value, le_bytes, be_bytes}
 
 pub length_le_bytes : (w v : ℕ) → length (le_bytes w v) ≡ w
@@ -8,10 +9,7 @@ length_le_bytes zero v = refl
 length_le_bytes (suc w) v = ap suc (length_le_bytes w (v / 256))
 
 pub le_value_bytes : (w v : ℕ) → v < 256 ^ w → le_value (le_bytes w v) ≡ v
-le_value_bytes zero v h = omega arith
-le_value_bytes (suc w) v h =
-    let small : v < 256 ^ w * 256 = rw pow-suc at h in
-    omega (arith, le_value_bytes w (v / 256) (omega arith))
+le_value_bytes w v h = le_back w v h
 
 -- what `to_le_bytes` and `to_be_bytes` of 32 bits give
 pub four_bytes : (v : ℕ) → v % 256 ∷ (v / 256 % 256 ∷ (v / 65536 % 256 ∷ (v / 16777216 % 256 ∷ []))) ≡ le_bytes 4 v

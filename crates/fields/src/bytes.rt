@@ -1,8 +1,17 @@
 // Bytes in byte slices at given places.
 ghost use Rattle.std.specs.Prelude.{◌≡◌, ◌+◌, ◌<◌, ◌≤◌, [], ◌∷◌, length, slice_index};
+ghost use Rattle.fields.specs.Words.{part};
 ghost use Rattle.fields.specs.Patches.{patch, Replaces};
 
-use crate::parts::place;
+// The bytes at a place, as an array.
+pub fn array_at<const N: usize>(bytes: &[u8], at: usize) -> [u8; N]
+    requires { at + N ≤ length bytes.now }
+    ensures { result ≡ part N at bytes.now }
+{
+    let mut array = [0; N];
+    array.copy_from_slice(&bytes[at..at + N]);
+    array
+}
 
 pub fn get8(bytes: &[u8], at: usize) -> u8
     requires { at < length bytes.now }
@@ -15,7 +24,16 @@ pub fn put8(bytes: &mut [u8], at: usize, value: u8)
     requires { at < length bytes.old }
     ensures { bytes.new ≡ patch at (value ∷ []) bytes.old }
 {
-    place(bytes, at, &[value]);
+    put_bytes(bytes, at, &[value]);
+}
+
+// What `put_bytes` does; apart, since its proof needs a file.
+fn place(bytes: &mut [u8], at: usize, new: &[u8])
+    requires { at + length new.now ≤ length bytes.old }
+    ensures patched { bytes.new ≡ patch at new.now bytes.old }
+    ensures replaces { Replaces at new.now bytes.old bytes.new }
+{
+    bytes[at..at + new.len()].copy_from_slice(new);
 }
 
 // Writes new bytes from a place on. Each part beside them keeps its bytes.

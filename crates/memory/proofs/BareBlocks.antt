@@ -8,10 +8,6 @@ use Rattle.memory.specs.Blocks.{sound, corrupt, corrupt_from, lowest_corrupt}
 use Rattle.memory.specs.Images.{block_count, bare_block, bare_blocks}
 use Rattle.memory.proofs.ImageBlocks.{count_is, block_is, blocks_set}
 
-pub bare_count : (bytes : List ℕ) → length (bare_blocks bytes) ≡ block_count 510 bytes
-unfolding bare_blocks
-bare_count bytes = count_is bare_block 510 bytes
-
 pub bare_at : (bytes : List ℕ) (n : ℕ) → n < length (bare_blocks bytes) → get_or (bare_blocks bytes) n corrupt ≡ sound (part 510 (n * 510) bytes)
 unfolding bare_blocks
 bare_at bytes n inside = block_is bare_block 510 bytes n corrupt (omega (arith, count_is bare_block 510 bytes))

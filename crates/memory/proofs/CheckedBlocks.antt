@@ -6,16 +6,12 @@ use Rattle.fields.specs.Patches.{patch}
 use Rattle.fields.proofs.Places.{length_patch, part_patch_same, part_patch_other, word_patch_same, word_patch_other}
 use Rattle.memory.specs.Blocks.{sound, corrupt}
 use Rattle.memory.specs.Checksum.{checksum_of}
-use Rattle.memory.specs.Images.{block_count, checked_block, checked_blocks, content_at, stored_checksum}
+use Rattle.memory.specs.Images.{checked_block, checked_blocks, content_at, stored_checksum}
 use Rattle.memory.proofs.ImageBlocks.{count_is, block_is, blocks_set}
 
 -- the stored checksum of a block is that of its content
 abbrev pub fits : List ℕ → ℕ → Bool
 fits bytes n = eqb (stored_checksum bytes n) (checksum_of n (content_at bytes n))
-
-pub checked_count : (bytes : List ℕ) → length (checked_blocks bytes) ≡ block_count 512 bytes
-unfolding checked_blocks
-checked_count bytes = count_is checked_block 512 bytes
 
 checked_at : (bytes : List ℕ) (n : ℕ) → n < length (checked_blocks bytes) → get_or (checked_blocks bytes) n corrupt ≡ checked_block bytes n
 unfolding checked_blocks

@@ -2,9 +2,10 @@
 ghost use Rattle.std.specs.Prelude.{◌≡◌, ◌*◌, ◌<◌, ◌≤◌, length};
 ghost use Rattle.memory.specs.Checksum.{weighted, checksum_of};
 
+use crate::memory::CONTENT;
+
 // The sum of the bytes, each times its place plus one.
-fn weighted_sum(content: &[u8]) -> u32
-    requires { length content.now ≡ 510 }
+fn weighted_sum(content: &[u8; CONTENT]) -> u32
     ensures sum { result ≡ weighted 0 content.now }
     ensures bound { result ≤ 510 * 130050 }
 {
@@ -15,9 +16,8 @@ fn weighted_sum(content: &[u8]) -> u32
     sum
 }
 
-pub(crate) fn checksum(block: u32, content: &[u8]) -> u16
-    requires few { block < 4096 }
-    requires long { length content.now ≡ 510 }
+pub(crate) fn checksum(block: u32, content: &[u8; CONTENT]) -> u16
+    requires { block < 4096 }
     ensures { result ≡ checksum_of block content.now }
 {
     ((block + 1 + weighted_sum(content)) % 65521) as u16

@@ -5,5 +5,5 @@ pub mod bare;
 pub mod checked;
 mod checksum;
 pub mod fault;
+pub mod image;
 pub mod memory;
-mod runs;

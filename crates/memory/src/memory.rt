@@ -27,14 +27,12 @@ pub trait BlockMemory {
         ensures { result ≡ lowest_corrupt below (blocks self.now) };
 
     // Reads a block's content into a buffer, which a refusal leaves as it was.
-    fn read(&self, block: u32, content: &mut [u8]) -> Result<(), MemoryFault>
-        requires { length content.old ≡ 510 }
+    fn read(&self, block: u32, content: &mut [u8; CONTENT]) -> Result<(), MemoryFault>
         ensures answer { result ≡ read_verdict (blocks self.now) block }
         ensures content { content.new ≡ read_content (blocks self.now) block content.old };
 
     // Makes a block sound with a new content; a refusal leaves every block as it was.
-    fn write(&mut self, block: u32, content: &[u8]) -> Result<(), MemoryFault>
-        requires { length content.now ≡ 510 }
+    fn write(&mut self, block: u32, content: &[u8; CONTENT]) -> Result<(), MemoryFault>
         ensures answer { result ≡ write_verdict (blocks self.old) block }
         ensures blocks { blocks self.new ≡ written (blocks self.old) block content.now }
         ensures own { rewrites self.old block content.now self.new };

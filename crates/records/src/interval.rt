@@ -9,7 +9,8 @@ use crate::layout::date_in;
 use crate::status::Status;
 use calendar::DateTime;
 use fields::bytes::{get8, put_bytes, put8};
-use fields::little::{get32, put32};
+use fields::order::Little;
+use fields::words::{get32, put32};
 
 #[derive(Clone, Copy, PartialEq, Eq, Debug)]
 pub struct Interval {
@@ -40,7 +41,7 @@ impl Record for Interval {
     #[tactic(auto, using(crate::proofs::Fills::in_turn), unfolding(crate::specs::Layouts::interval_layout))]
     fn write(&self, slot: &mut [u8]) {
         put_bytes(slot, 0, &<[u8; 6]>::from(self.at));
-        put32(slot, 6, self.total);
+        put32::<Little>(slot, 6, self.total);
         put8(slot, 10, self.status.into());
     }
 
@@ -48,7 +49,7 @@ impl Record for Interval {
         let status = Status::try_from(get8(slot, 10)).ok()?;
         Some(Interval {
             at: date_in(slot),
-            total: get32(slot, 6),
+            total: get32::<Little>(slot, 6),
             status,
         })
     }

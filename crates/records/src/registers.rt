@@ -2,7 +2,8 @@
 ghost use Rattle.std.specs.Prelude.{◌≡◌, ◌+◌, ◌≤◌, length};
 ghost use Rattle.records.specs.Layouts.{registers_at, IsWrittenAs};
 
-use fields::little::{get32, put32};
+use fields::order::Little;
+use fields::words::{get32, put32};
 
 #[derive(Clone, Copy, PartialEq, Eq, Debug)]
 pub struct Registers {
@@ -19,11 +20,11 @@ impl From<Registers> for [u8; 20] {
     #[tactic(auto, using(crate::proofs::Fills::in_turn), unfolding(crate::specs::Layouts::five_words))]
     fn from(registers: Registers) -> [u8; 20] {
         let mut bytes = [0u8; 20];
-        put32(&mut bytes, 0, registers.total);
-        put32(&mut bytes, 4, registers.tier1);
-        put32(&mut bytes, 8, registers.tier2);
-        put32(&mut bytes, 12, registers.tier3);
-        put32(&mut bytes, 16, registers.tier4);
+        put32::<Little>(&mut bytes, 0, registers.total);
+        put32::<Little>(&mut bytes, 4, registers.tier1);
+        put32::<Little>(&mut bytes, 8, registers.tier2);
+        put32::<Little>(&mut bytes, 12, registers.tier3);
+        put32::<Little>(&mut bytes, 16, registers.tier4);
         bytes
     }
 }
@@ -35,11 +36,11 @@ impl Registers {
         ensures { result ≡ registers_at at bytes.now }
     {
         Registers {
-            total: get32(bytes, at),
-            tier1: get32(bytes, at + 4),
-            tier2: get32(bytes, at + 8),
-            tier3: get32(bytes, at + 12),
-            tier4: get32(bytes, at + 16),
+            total: get32::<Little>(bytes, at),
+            tier1: get32::<Little>(bytes, at + 4),
+            tier2: get32::<Little>(bytes, at + 8),
+            tier3: get32::<Little>(bytes, at + 12),
+            tier4: get32::<Little>(bytes, at + 16),
         }
     }
 }

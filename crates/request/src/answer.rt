@@ -7,8 +7,9 @@ ghost use Rattle.request.specs.Asks.{whole};
 ghost use Rattle.request.specs.Answers.{check_byte, answer_bytes, refused, zeroed, wiped, buffer_verdict};
 
 use crate::sums::byte_sum;
-use fields::big::put16;
 use fields::bytes::{put_bytes, put8};
+use fields::order::Big;
+use fields::words::put16;
 use numbers::service::AnswerCode;
 use refusals::fault::ServiceFault;
 use refusals::refusal::Refusal;
@@ -48,7 +49,7 @@ fn enclose(answer: &mut [u8], code: AnswerCode, count: u16, check: u8)
     ensures { answer.new ≡ overlay (code_number code ∷ (be_bytes 2 (length (part count 3 answer.old)) ++ (part count 3 answer.old ++ (check ∷ [])))) answer.old }
 {
     put8(answer, 0, u8::from(code));
-    put16(answer, 1, count);
+    put16::<Big>(answer, 1, count);
     put8(answer, 3 + count as usize, check);
 }
 

@@ -2,7 +2,8 @@
 ghost use Rattle.std.specs.Prelude.{◌≡◌, ◌+◌, ◌≤◌, length, drop};
 ghost use Rattle.fields.specs.Words.{big_word};
 
-use fields::big::get16;
+use fields::order::Big;
+use fields::words::get16;
 
 fn get24(bytes: &[u8], at: usize) -> u32
     requires { at + 3 ≤ length bytes.now }
@@ -33,7 +34,7 @@ impl<'a> Reader<'a> {
     {
         let at = self.at;
         self.at = at + 2;
-        get16(self.bytes, at)
+        get16::<Big>(self.bytes, at)
     }
 
     pub(crate) fn next24(&mut self) -> u32

@@ -10,7 +10,7 @@ use fields::bytes::put_bytes;
 use memory::bare::BareImage;
 use memory::checked::CheckedImage;
 use memory::fault::MemoryFault;
-use memory::memory::BlockMemory;
+use memory::memory::{BlockMemory, CONTENT};
 use script::answer::Answer;
 use script::command::{ImageCommand, Make};
 use script::complaint::Complaint;
@@ -36,15 +36,19 @@ fn lowest_corrupt(make: Make, bytes: &mut [u8], below: u32) -> Option<u32>
     }
 }
 
-fn zeros() -> [u8; 510]
+fn zeros() -> [u8; CONTENT]
     ensures value { result ≡ zero_content }
     ensures long { length result ≡ 510 }
 {
-    [0; 510]
+    [0; CONTENT]
 }
 
-fn read_into(make: Make, bytes: &mut [u8], n: u32, content: &mut [u8]) -> Result<(), MemoryFault>
-    requires { length content.old ≡ 510 }
+fn read_into(
+    make: Make,
+    bytes: &mut [u8],
+    n: u32,
+    content: &mut [u8; CONTENT],
+) -> Result<(), MemoryFault>
     ensures answer { result ≡ read_verdict (blocks_of make bytes.old) n }
     ensures content { content.new ≡ read_content (blocks_of make bytes.old) n content.old }
     ensures same { bytes.new ≡ bytes.old }
@@ -55,7 +59,7 @@ fn read_into(make: Make, bytes: &mut [u8], n: u32, content: &mut [u8]) -> Result
     }
 }
 
-fn read_block(make: Make, bytes: &mut [u8], n: u32) -> Result<[u8; 510], MemoryFault>
+fn read_block(make: Make, bytes: &mut [u8], n: u32) -> Result<[u8; CONTENT], MemoryFault>
     ensures value { result ≡ content_read (blocks_of make bytes.old) n }
     ensures same { bytes.new ≡ bytes.old }
 {
@@ -64,8 +68,12 @@ fn read_block(make: Make, bytes: &mut [u8], n: u32) -> Result<[u8; 510], MemoryF
     Ok(content)
 }
 
-fn write_content(make: Make, bytes: &mut [u8], n: u32, content: &[u8]) -> Result<(), MemoryFault>
-    requires { length content.now ≡ 510 }
+fn write_content(
+    make: Make,
+    bytes: &mut [u8],
+    n: u32,
+    content: &[u8; CONTENT],
+) -> Result<(), MemoryFault>
     ensures answer { result ≡ write_verdict (blocks_of make bytes.old) n }
     ensures after { bytes.new ≡ written_to make bytes.old n content.now }
 {
@@ -79,7 +87,7 @@ fn write_block(make: Make, bytes: &mut [u8], n: u32, given: &[u8]) -> Result<Ans
     ensures answer { result ≡ answer_on make bytes.old (write n given.now) }
     ensures after { bytes.new ≡ bytes_after make bytes.old (write n given.now) }
 {
-    if given.len() > 510 {
+    if given.len() > CONTENT {
         return Err(Complaint::TooManyBytes);
     }
     let mut content = zeros();

@@ -16,7 +16,7 @@ use crate::views::{date_bytes, pending_status, response_bytes};
 use directory::entry::{Source, View};
 use directory::staged::{current_block, pending_block, staged_length};
 use head::head::Head;
-use memory::memory::BlockMemory;
+use memory::memory::{BlockMemory, CONTENT};
 use request::answer::seal;
 
 // Where the utility table stands, and its bytes.
@@ -54,13 +54,12 @@ fn fill_part<M: BlockMemory>(
     source: Source,
     from: usize,
     out: &mut [u8],
-    work: &mut [u8],
+    work: &mut [u8; CONTENT],
 )
     requires ready { Ready (M.BlockMemory.blocks memory.now) }
     requires clock { clock < seconds_in_all }
     requires activated { head.now.activation.second < seconds_in_all }
     requires inside { from + length out.old ≤ shown_length source }
-    requires long { length work.old ≡ 510 }
     ensures { out.new ≡ part (length out.old) from (table_bytes source clock (response_if response) head.now (M.BlockMemory.blocks memory.now)) }
 {
     match source {
@@ -89,13 +88,12 @@ pub fn read_part<M: BlockMemory>(
     source: Source,
     from: usize,
     out: &mut [u8],
-    work: &mut [u8],
+    work: &mut [u8; CONTENT],
 )
     requires ready { Ready (M.BlockMemory.blocks memory.now) }
     requires clock { clock < seconds_in_all }
     requires activated { head.now.activation.second < seconds_in_all }
     requires inside { from + length out.old ≤ shown_length source }
-    requires long { length work.old ≡ 510 }
     ensures bytes { out.new ≡ part (length out.old) from (table_bytes source clock (response_if response) head.now (M.BlockMemory.blocks memory.now)) }
 {
     fill_part(memory, head, clock, response, source, from, out, work);
@@ -110,14 +108,13 @@ fn seal_part<M: BlockMemory>(
     from: usize,
     count: u16,
     answer: &mut [u8],
-    work: &mut [u8],
+    work: &mut [u8; CONTENT],
 )
     requires ready { Ready (M.BlockMemory.blocks memory.now) }
     requires clock { clock < seconds_in_all }
     requires activated { head.now.activation.second < seconds_in_all }
     requires inside { from + count ≤ shown_length source }
     requires room { count + 4 ≤ length answer.old }
-    requires long { length work.old ≡ 510 }
     ensures { answer.new ≡ overlay (answer_bytes (part count from (table_bytes source clock (response_if response) head.now (M.BlockMemory.blocks memory.now)))) answer.old }
 {
     let end = 3 + count as usize;
@@ -144,7 +141,7 @@ pub fn answer_part<M: BlockMemory>(
     from: usize,
     count: u16,
     answer: &mut [u8],
-    work: &mut [u8],
+    work: &mut [u8; CONTENT],
 )
     requires ready { Ready (M.BlockMemory.blocks memory.now) }
     requires clock { clock < seconds_in_all }
@@ -152,7 +149,6 @@ pub fn answer_part<M: BlockMemory>(
     requires inside { from + count ≤ shown_length source }
     requires few { count ≤ 1024 }
     requires room { 1028 ≤ length answer.old }
-    requires long { length work.old ≡ 510 }
     ensures bytes { answer.new ≡ overlay (answer_bytes (part count from (table_bytes source clock (response_if response) head.now (M.BlockMemory.blocks memory.now)))) answer.old }
 {
     seal_part(

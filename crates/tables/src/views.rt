@@ -7,7 +7,8 @@ ghost use Rattle.tables.specs.Responses.{response_if};
 use crate::response::Response;
 use calendar::from_second;
 use fields::bytes::{put_bytes, put8};
-use fields::little::put16;
+use fields::order::Little;
+use fields::words::put16;
 use head::head::{Activation, Head};
 use pending::row::Row;
 use pending::table::PendingTable;
@@ -54,7 +55,7 @@ fn row_shown(table: PendingTable, row: Row) -> [u8; 8]
     let mut bytes = [0u8; 8];
     if row.is_waiting() {
         put_bytes(&mut bytes, 0, &row.trigger_bytes());
-        put16(&mut bytes, 6, table.into());
+        put16::<Little>(&mut bytes, 6, table.into());
     }
     bytes
 }

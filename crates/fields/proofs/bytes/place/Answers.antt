@@ -1,6 +1,6 @@
 use Rattle.std.proofs.Common.{◌≡◌, ◌+◌, ◌-◌, length, refl, arith}
 use Rattle.fields.proofs.Places.{patch_from_put, replaces}
-use Rattle.fields.proofs.parts.place.Goals as goal
+use Rattle.fields.proofs.bytes.place.Goals as goal
 
 pub returns : goal.returns
 returns c =
