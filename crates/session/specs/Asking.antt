@@ -7,8 +7,8 @@ use Rattle.text.specs.Digests.{digest_of}
 use Rattle.script.specs.declared.answer.Answer.{Answer}
 use Rattle.script.specs.declared.answer.Answer.TheVariants.{Poked, Write, Block, Unsound, Digest}
 use Rattle.script.specs.declared.command.Make.{Make}
-use Rattle.script.specs.declared.complaint.Complaint.{Complaint}
-use Rattle.script.specs.declared.complaint.Complaint.TheVariants.{OutsideImage, TooManyBytes}
+use Rattle.lines.specs.declared.complaint.Complaint.{Complaint}
+use Rattle.lines.specs.declared.complaint.Complaint.TheVariants.{OutsideImage, TooManyBytes}
 use Rattle.script.specs.Commands.{Asked, poke, write, unsound, block, digest}
 use Rattle.session.specs.Images.{blocks_of, written_to, content_from, content_read}
 

@@ -7,13 +7,13 @@ ghost use Rattle.session.specs.Images.{size_of, blocks_of, written_to, zero_cont
 ghost use Rattle.session.specs.Asking.{answer_on, bytes_after};
 
 use fields::bytes::put_bytes;
+use lines::complaint::Complaint;
 use memory::bare::BareImage;
 use memory::checked::CheckedImage;
 use memory::fault::MemoryFault;
 use memory::memory::BlockMemory;
 use script::answer::Answer;
 use script::command::{ImageCommand, Make};
-use script::complaint::Complaint;
 use text::digest::digest;
 
 pub(crate) fn size(make: Make, bytes: &mut [u8]) -> u32

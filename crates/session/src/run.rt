@@ -9,9 +9,9 @@ use crate::held::HeldImage;
 use crate::image::{answer, size};
 use crate::session::Session;
 use calendar::{DateTime, from_second, weekday_at};
+use lines::complaint::Complaint;
 use script::answer::Answer;
 use script::command::{Command, ImageCommand, Make};
-use script::complaint::Complaint;
 use std::alloc::{AllocError, Global};
 use text::number::NumberFault;
 

@@ -7,27 +7,14 @@ ghost use Rattle.text.specs.Pairs.{Value, taken, whole, hex_read, Refuses, pair_
 use crate::digits::upper_digit;
 use crate::words::is_blank;
 use std::alloc::{AllocError, AllocFailed, Global};
-use std::error::Error;
-use std::fmt;
 
+// No Display: its words stand once, with those of the complaints that it is part of.
 #[derive(Clone, Copy, PartialEq, Eq, Debug)]
 pub enum HexFault {
     NotHex,
     OddDigits,
     NoMemory,
 }
-
-impl fmt::Display for HexFault {
-    fn fmt<W: fmt::Write>(&self, f: &mut fmt::Formatter<W>) -> fmt::Result {
-        f.write_str(match self {
-            HexFault::NotHex => "a byte is not written in hex digits",
-            HexFault::OddDigits => "the number of hex digits is odd",
-            HexFault::NoMemory => "there is not enough memory",
-        })
-    }
-}
-
-impl Error for HexFault {}
 
 impl<T: Drop> From<AllocFailed<T>> for HexFault {
     ghost from_gives = { λ e r. r ≡ NoMemory };

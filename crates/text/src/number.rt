@@ -4,25 +4,13 @@ ghost use Rattle.text.specs.Numerals.{all_digits, value_of, number_read, decimal
 
 use crate::digits::write_digits;
 use std::alloc::AllocError;
-use std::error::Error;
-use std::fmt;
 
+// No Display: its words stand once, with those of the complaints that it is part of.
 #[derive(Clone, Copy, PartialEq, Eq, Debug)]
 pub enum NumberFault {
     NotDecimal,
     TooLarge,
 }
-
-impl fmt::Display for NumberFault {
-    fn fmt<W: fmt::Write>(&self, f: &mut fmt::Formatter<W>) -> fmt::Result {
-        f.write_str(match self {
-            NumberFault::NotDecimal => "a decimal number is wanted",
-            NumberFault::TooLarge => "a number is too large",
-        })
-    }
-}
-
-impl Error for NumberFault {}
 
 // The number that the digits write, or the limit if that is less; None if a byte is no digit.
 fn capped_value(word: &[u8], limit: u64) -> Option<u64>
