@@ -3,6 +3,8 @@ use Rattle.std.specs.Prelude.{ℕ, cond, List, length, Ok, Err, vec_items, Resul
 use Rattle.calendar.specs.declared.DateTime.{DateTime}
 use Rattle.calendar.specs.Calendar.{dated}
 use Rattle.script.specs.declared.command.Make.{Make}
+use Rattle.script.specs.declared.command.BlockCommand.{BlockCommand}
+use Rattle.script.specs.declared.command.BlockCommand.TheVariants as blocks
 use Rattle.script.specs.declared.command.ImageCommand.{ImageCommand}
 use Rattle.script.specs.declared.command.ImageCommand.TheVariants as asking
 use Rattle.script.specs.declared.command.Command.{Command}
@@ -28,12 +30,15 @@ pub data Said : Type 0 where
   second : DateTime → Said
   moment : ℕ → Said
 
+abbrev pub block_asked_of : BlockCommand → Asked
+block_asked_of (blocks.Write n bytes) = write n (vec_items bytes)
+block_asked_of (blocks.Unsound below) = unsound below
+block_asked_of (blocks.Block n) = block n
+
 abbrev pub asked_of : ImageCommand → Asked
 asked_of (asking.Poke offset bytes) = poke offset (vec_items bytes)
-asked_of (asking.Write n bytes) = write n (vec_items bytes)
-asked_of (asking.Unsound below) = unsound below
-asked_of (asking.Block n) = block n
 asked_of asking.Digest = digest
+asked_of (asking.Blocks c) = block_asked_of c
 
 abbrev pub said_of : Command → Said
 said_of (command.Image make bytes) = image make bytes

@@ -4,7 +4,7 @@ ghost use Rattle.lines.specs.Parts.{Meets};
 ghost use Rattle.script.specs.Lines.{make_said, keyword_said};
 ghost use Rattle.script.specs.Commands.{said_of, some_bytes_said, image_said, poke_said, write_said, second_said, command_said};
 
-use crate::command::{Command, ImageCommand, Keyword, Make};
+use crate::command::{BlockCommand, Command, ImageCommand, Keyword, Make};
 use calendar::DateTime;
 use lines::complaint::Complaint;
 use lines::parts::{byte, bytes, end, last_number, number, word};
@@ -68,7 +68,7 @@ fn read_write(heap: Global, line: &[u8]) -> Result<Command, Complaint>
 {
     let (block, rest) = number(line, u32::MAX)?;
     let bytes = bytes(heap, rest)?;
-    Ok(Command::On(ImageCommand::Write(block, bytes)))
+    Ok(Command::On(ImageCommand::Blocks(BlockCommand::Write(block, bytes))))
 }
 
 fn read_second(line: &[u8]) -> Result<Command, Complaint>
@@ -102,11 +102,11 @@ pub fn read_command(heap: Global, line: &[u8]) -> Result<Command, Complaint>
         Keyword::Write => read_write(heap, rest),
         Keyword::Unsound => {
             let below = last_number(rest, u32::MAX)?;
-            Ok(Command::On(ImageCommand::Unsound(below)))
+            Ok(Command::On(ImageCommand::Blocks(BlockCommand::Unsound(below))))
         }
         Keyword::Block => {
             let n = last_number(rest, u32::MAX)?;
-            Ok(Command::On(ImageCommand::Block(n)))
+            Ok(Command::On(ImageCommand::Blocks(BlockCommand::Block(n))))
         }
         Keyword::Digest => {
             end(rest)?;
