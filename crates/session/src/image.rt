@@ -14,6 +14,7 @@ use script::answer::Answer;
 use script::command::{BlockCommand, ImageCommand, Make};
 use text::digest::digest;
 
+// Picks the image a second time: no closure is generic over the memory, so one function cannot pick it for both.
 pub(crate) fn size(make: Make, bytes: &mut [u8]) -> u32
     ensures value { result ≡ size_of make bytes.old }
     ensures same { bytes.new ≡ bytes.old }

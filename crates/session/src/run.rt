@@ -18,13 +18,6 @@ use text::number::NumberFault;
 // The most bytes that an image may have.
 const LIMIT: u32 = 16_777_216;
 
-fn zero_bytes(heap: Global, count: usize) -> Result<Vec<u8>, AllocError>
-    ensures items { IfOk result (λ v. v.items ≡ replicate count 0) }
-    ensures len { IfOk result (λ v. vec_len v ≡ count) }
-{
-    vec![in heap; 0; count]
-}
-
 impl HeldImage {
     fn size(&mut self) -> u32
         ensures value { result ≡ size_of self.old.make self.old.bytes.items }
@@ -47,7 +40,7 @@ fn new_image(heap: Global, make: Make, count: u32) -> Result<(HeldImage, u32), C
     if count > LIMIT {
         return Err(Complaint::Number(NumberFault::TooLarge));
     }
-    let bytes = zero_bytes(heap, count as usize)?;
+    let bytes = vec![in heap; 0; count as usize]?;
     let mut held = HeldImage { make, bytes };
     let size = held.size();
     Ok((held, size))
