@@ -2,10 +2,7 @@
 use Rattle.std.specs.Prelude.{ℕ, cond, List, Some, None, Ok, Err, vec_items, codes, Option, Result}
 use Rattle.std.specs.Str.{bytes_eq}
 use Rattle.lines.specs.declared.complaint.Complaint.{Complaint}
-use Rattle.lines.specs.declared.complaint.Complaint.TheVariants as complaint
 use Rattle.lines.specs.Parts.{and_then, word_said, number_said, end_said, last_number_said, bytes_said}
-use Rattle.script.specs.declared.complaint.Complaint.{Complaint as BenchComplaint}
-use Rattle.script.specs.declared.complaint.Complaint.TheVariants as grumble
 use Rattle.script.specs.Commands.{Said, said_of, command_said}
 use Rattle.dialog.specs.declared.command.MeterWord.{MeterWord}
 use Rattle.dialog.specs.declared.command.MeterWord.TheVariants as word
@@ -77,23 +74,9 @@ meter_said word.Energy line = and_then (last_number_said 4294967295 line) (λ n.
 meter_said word.Stop line = and_then (end_said line) (λ _. Ok stop)
 meter_said word.Clock line = and_then (end_said line) (λ _. Ok clock)
 
--- A complaint of a line to the bench.
-abbrev pub known : BenchComplaint → Complaint
-known grumble.UnknownCommand = complaint.UnknownCommand
-known grumble.UnknownMake = complaint.UnknownMake
-known grumble.MissingWord = complaint.MissingWord
-known grumble.SurplusWord = complaint.SurplusWord
-known (grumble.Number e) = complaint.Number e
-known (grumble.Hex e) = complaint.Hex e
-known grumble.NoBytes = complaint.NoBytes
-known grumble.TooManyBytes = complaint.TooManyBytes
-known grumble.NoImage = complaint.NoImage
-known grumble.OutsideImage = complaint.OutsideImage
-known grumble.NoMemory = complaint.NoMemory
-
-abbrev pub benched : Result Said BenchComplaint → Result AnySaid Complaint
+abbrev pub benched : Result Said Complaint → Result AnySaid Complaint
 benched (Ok said) = Ok (bench said)
-benched (Err e) = Err (known e)
+benched (Err e) = Err e
 
 abbrev pub bench_said : List ℕ → Result AnySaid Complaint
 bench_said line = benched (command_said line)

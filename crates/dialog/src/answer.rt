@@ -1,12 +1,12 @@
 // What a command on a meter is answered, and the lines that say so.
 ghost use Rattle.std.specs.Prelude.{◌≡◌, [], ◌∷◌, ◌++◌, OnOk};
-ghost use Rattle.dialog.specs.Answers.{layer_text, refused_after, verdict_after, ticks_after, code_after, served_after, tail_text, scratch_text, told, answer_tail_after, scratch_after, scratch_tail_after, buffers_after, meter_answer_after, any_answer_after};
+ghost use Rattle.dialog.specs.Answers.{layer_text, refused_after, verdict_after, ticks_after, code_after, served_after, tail_text, scratch_text, told, buffers_after, meter_answer_after, any_answer_after};
 
 use calendar::DateTime;
 use lines::writing::{write_date, write_numbered};
 use memory::fault::MemoryFault;
 use numbers::service::AnswerCode;
-use refusals::cause::{Cause, Layer};
+use refusals::cause::Layer;
 use refusals::fault::{MeterFault, ServiceFault};
 use refusals::refusal::Refusal;
 use script::answer::{Answer, write_answer};
@@ -20,12 +20,36 @@ pub enum Tail {
     Changed,
 }
 
+// The texts are bytes, and not a Display: the transcript is a Vec of bytes, to which nothing is displayed.
+impl Tail {
+    fn text(self) -> &'static [u8]
+        ensures { result.now ≡ tail_text self }
+    {
+        match self {
+            Tail::Kept => b"ok",
+            Tail::Changed => b"changed",
+        }
+    }
+}
+
 // The bytes of the scratch that a call may write.
 #[derive(Clone, Copy)]
 pub enum Scratch {
     Zeroed,
     Untouched,
     Other,
+}
+
+impl Scratch {
+    fn text(self) -> &'static [u8]
+        ensures { result.now ≡ scratch_text self }
+    {
+        match self {
+            Scratch::Zeroed => b"zeroed",
+            Scratch::Untouched => b"untouched",
+            Scratch::Other => b"other",
+        }
+    }
 }
 
 // What became of the buffers of a service.
@@ -59,6 +83,7 @@ pub enum AnyAnswer {
     Meter(MeterAnswer),
 }
 
+// The name of a layer, as bytes too.
 fn layer_text(layer: Layer) -> &'static [u8]
     ensures { result.now ≡ layer_text layer }
 {
@@ -69,21 +94,27 @@ fn layer_text(layer: Layer) -> &'static [u8]
     }
 }
 
-fn write_refused(out: &mut Vec<u8>, cause: Cause, place: u32) -> Result<(), AllocError>
-    ensures { OnOk result (out.new.items ≡ refused_after out.old.items cause place) }
+fn write_refused<R: Refusal>(out: &mut Vec<u8>, fault: &R) -> Result<(), AllocError>
+    ensures { OnOk result (out.new.items ≡ refused_after out.old.items (R.Refusal.cause_of fault.now) (R.Refusal.place_of fault.now)) }
 {
+    let cause = fault.cause();
     write_numbered(out, b"refused ", u32::from(u8::from(cause)), b" place ")?;
-    write_numbered(out, b"", place, b" layer ")?;
+    write_numbered(out, b"", fault.place(), b" layer ")?;
     out.extend_from_slice(layer_text(cause.layer()))
 }
 
-// Appends what a call said.
-fn write_verdict<R: Refusal>(out: &mut Vec<u8>, verdict: &Result<(), R>) -> Result<(), AllocError>
-    ensures { OnOk result (out.new.items ≡ verdict_after R.Refusal.cause_of R.Refusal.place_of out.old.items verdict.now) }
+// Appends the name of a call, and what it said.
+fn write_verdict<R: Refusal>(
+    out: &mut Vec<u8>,
+    call: &[u8],
+    verdict: &Result<(), R>,
+) -> Result<(), AllocError>
+    ensures { OnOk result (out.new.items ≡ verdict_after R.Refusal.cause_of R.Refusal.place_of (out.old.items ++ call.now) verdict.now) }
 {
+    out.extend_from_slice(call)?;
     match verdict {
         Ok(()) => out.extend_from_slice(b"ok"),
-        Err(fault) => write_refused(out, fault.cause(), fault.place()),
+        Err(fault) => write_refused(out, fault),
     }
 }
 
@@ -98,7 +129,7 @@ fn write_ticks(
         Ok(()) => write_numbered(out, b"ticks: ", count, b" ok"),
         Err(fault) => {
             write_numbered(out, b"ticks: ", count, b" ok, then ")?;
-            write_refused(out, fault.cause(), fault.place())
+            write_refused(out, fault)
         }
     }
 }
@@ -122,28 +153,9 @@ fn write_served(out: &mut Vec<u8>, served: &Result<Vec<u8>, ServiceFault>) -> Re
     match served {
         Ok(bytes) => write_hex(out, bytes.as_slice()),
         Err(fault) => {
-            write_refused(out, fault.cause(), fault.place())?;
+            write_refused(out, fault)?;
             write_code(out, fault.code())
         }
-    }
-}
-
-fn tail_text(tail: Tail) -> &'static [u8]
-    ensures { result.now ≡ tail_text tail }
-{
-    match tail {
-        Tail::Kept => b"ok",
-        Tail::Changed => b"changed",
-    }
-}
-
-fn scratch_text(scratch: Scratch) -> &'static [u8]
-    ensures { result.now ≡ scratch_text scratch }
-{
-    match scratch {
-        Scratch::Zeroed => b"zeroed",
-        Scratch::Untouched => b"untouched",
-        Scratch::Other => b"other",
     }
 }
 
@@ -155,30 +167,13 @@ fn write_told(out: &mut Vec<u8>, what: &[u8], how: &[u8]) -> Result<(), AllocErr
     out.extend_from_slice(how)
 }
 
-fn write_answer_tail(out: &mut Vec<u8>, tail: Tail) -> Result<(), AllocError>
-    ensures { OnOk result (out.new.items ≡ answer_tail_after out.old.items tail) }
-{
-    write_told(out, b"buffers: answer-tail ", tail_text(tail))
-}
-
-fn write_scratch(out: &mut Vec<u8>, scratch: Scratch) -> Result<(), AllocError>
-    ensures { OnOk result (out.new.items ≡ scratch_after out.old.items scratch) }
-{
-    write_told(out, b", scratch ", scratch_text(scratch))
-}
-
-fn write_scratch_tail(out: &mut Vec<u8>, tail: Tail) -> Result<(), AllocError>
-    ensures { OnOk result (out.new.items ≡ scratch_tail_after out.old.items tail) }
-{
-    write_told(out, b", scratch-tail ", tail_text(tail))
-}
-
+#[tactic(auto, unfolding(crate::specs::Answers::answer_tail_after, crate::specs::Answers::scratch_after, crate::specs::Answers::scratch_tail_after))]
 fn write_buffers(out: &mut Vec<u8>, buffers: Buffers) -> Result<(), AllocError>
     ensures { OnOk result (out.new.items ≡ buffers_after out.old.items buffers) }
 {
-    write_answer_tail(out, buffers.answer_tail)?;
-    write_scratch(out, buffers.scratch)?;
-    write_scratch_tail(out, buffers.scratch_tail)
+    write_told(out, b"buffers: answer-tail ", buffers.answer_tail.text())?;
+    write_told(out, b", scratch ", buffers.scratch.text())?;
+    write_told(out, b", scratch-tail ", buffers.scratch_tail.text())
 }
 
 fn write_served_in(
@@ -198,25 +193,13 @@ fn write_meter_answer(out: &mut Vec<u8>, answer: &MeterAnswer) -> Result<(), All
     ensures { OnOk result (out.new.items ≡ meter_answer_after out.old.items answer.now) }
 {
     match answer {
-        MeterAnswer::Format(verdict) => {
-            out.extend_from_slice(b"format: ")?;
-            write_verdict(out, verdict)
-        }
-        MeterAnswer::Start(verdict) => {
-            out.extend_from_slice(b"start: ")?;
-            write_verdict(out, verdict)
-        }
+        MeterAnswer::Format(verdict) => write_verdict(out, b"format: ", verdict),
+        MeterAnswer::Start(verdict) => write_verdict(out, b"start: ", verdict),
         MeterAnswer::Serve(served) => write_served(out, served),
         MeterAnswer::ServeIn(served, buffers) => write_served_in(out, served, *buffers),
-        MeterAnswer::Tick(verdict) => {
-            out.extend_from_slice(b"tick: ")?;
-            write_verdict(out, verdict)
-        }
+        MeterAnswer::Tick(verdict) => write_verdict(out, b"tick: ", verdict),
         MeterAnswer::Ticks(count, verdict) => write_ticks(out, *count, verdict),
-        MeterAnswer::Energy(verdict) => {
-            out.extend_from_slice(b"energy: ")?;
-            write_verdict(out, verdict)
-        }
+        MeterAnswer::Energy(verdict) => write_verdict(out, b"energy: ", verdict),
         MeterAnswer::Stop => out.extend_from_slice(b"stop: ok"),
         MeterAnswer::Clock(second, date, weekday) => {
             write_numbered(out, b"clock: ", *second, b" ")?;

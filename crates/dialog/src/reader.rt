@@ -1,42 +1,32 @@
 // A line of a script, read as any command.
 ghost use Rattle.std.specs.Prelude.{◌≡◌};
 ghost use Rattle.lines.specs.Parts.{rested, Meets, number_said};
-ghost use Rattle.dialog.specs.Commands.{meter_said_of, any_said_of, meter_word_said, serve_said, serve_in_said, meter_said, bench_said, known, any_said};
+ghost use Rattle.dialog.specs.Commands.{meter_said_of, any_said_of, meter_word_said, serve_said, serve_in_said, meter_said, any_said};
 
 use crate::command::{AnyCommand, MeterCommand, MeterWord};
 use lines::complaint::Complaint;
-use lines::parts::{byte, bytes, end, is_word, last_number, number, word};
-use script::complaint::Complaint as BenchComplaint;
+use lines::parts::{byte, bytes, end, last_number, number, word};
 use script::reader::read_command;
 use std::alloc::Global;
 
 fn meter_word(word: &[u8]) -> Option<MeterWord>
     ensures { result ≡ meter_word_said word.now }
 {
-    if is_word(word, b"format") {
-        Some(MeterWord::Format)
-    } else if is_word(word, b"start") {
-        Some(MeterWord::Start)
-    } else if is_word(word, b"serve") {
-        Some(MeterWord::Serve)
-    } else if is_word(word, b"serve-in") {
-        Some(MeterWord::ServeIn)
-    } else if is_word(word, b"tick") {
-        Some(MeterWord::Tick)
-    } else if is_word(word, b"ticks") {
-        Some(MeterWord::Ticks)
-    } else if is_word(word, b"energy") {
-        Some(MeterWord::Energy)
-    } else if is_word(word, b"stop") {
-        Some(MeterWord::Stop)
-    } else if is_word(word, b"clock") {
-        Some(MeterWord::Clock)
-    } else {
-        None
+    match word {
+        b"format" => Some(MeterWord::Format),
+        b"start" => Some(MeterWord::Start),
+        b"serve" => Some(MeterWord::Serve),
+        b"serve-in" => Some(MeterWord::ServeIn),
+        b"tick" => Some(MeterWord::Tick),
+        b"ticks" => Some(MeterWord::Ticks),
+        b"energy" => Some(MeterWord::Energy),
+        b"stop" => Some(MeterWord::Stop),
+        b"clock" => Some(MeterWord::Clock),
+        _ => None,
     }
 }
 
-// The length of a buffer.
+// The length of a buffer. Not one function with `byte` over a type: there the cast could fail, and the line would want one more complaint.
 fn length(line: &[u8]) -> Result<(u16, &[u8]), Complaint>
     ensures { rested (λ n. n) result ≡ number_said 4096 line.now }
 {
@@ -105,35 +95,6 @@ fn read_meter_command(heap: Global, word: MeterWord, line: &[u8]) -> Result<Mete
     }
 }
 
-// The same complaint, of the lines of any command.
-fn known(complaint: BenchComplaint) -> Complaint
-    ensures { result ≡ known complaint }
-{
-    match complaint {
-        BenchComplaint::UnknownCommand => Complaint::UnknownCommand,
-        BenchComplaint::UnknownMake => Complaint::UnknownMake,
-        BenchComplaint::MissingWord => Complaint::MissingWord,
-        BenchComplaint::SurplusWord => Complaint::SurplusWord,
-        BenchComplaint::Number(fault) => Complaint::Number(fault),
-        BenchComplaint::Hex(fault) => Complaint::Hex(fault),
-        BenchComplaint::NoBytes => Complaint::NoBytes,
-        BenchComplaint::TooManyBytes => Complaint::TooManyBytes,
-        BenchComplaint::NoImage => Complaint::NoImage,
-        BenchComplaint::OutsideImage => Complaint::OutsideImage,
-        BenchComplaint::NoMemory => Complaint::NoMemory,
-    }
-}
-
-// The command on an image or on dates that a line asks for.
-fn read_bench_command(heap: Global, line: &[u8]) -> Result<AnyCommand, Complaint>
-    ensures { Meets any_said_of result (bench_said line.now) }
-{
-    match read_command(heap, line) {
-        Ok(command) => Ok(AnyCommand::Bench(command)),
-        Err(complaint) => Err(known(complaint)),
-    }
-}
-
 // The command that a line asks for, whatever its kind.
 pub fn read_any_command(heap: Global, line: &[u8]) -> Result<AnyCommand, Complaint>
     ensures { Meets any_said_of result (any_said line.now) }
@@ -144,6 +105,9 @@ pub fn read_any_command(heap: Global, line: &[u8]) -> Result<AnyCommand, Complai
             let command = read_meter_command(heap, first, rest)?;
             Ok(AnyCommand::Meter(command))
         }
-        None => read_bench_command(heap, line),
+        None => {
+            let command = read_command(heap, line)?;
+            Ok(AnyCommand::Bench(command))
+        }
     }
 }

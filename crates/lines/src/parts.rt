@@ -1,6 +1,5 @@
 // The parts of a line: each function takes what is left of it, and gives a part and the rest.
 ghost use Rattle.std.specs.Prelude.{◌≡◌, ◌≤◌, IfOk, vec_items};
-ghost use Rattle.std.specs.Str.{bytes_eq};
 ghost use Rattle.lines.specs.Parts.{rested, Meets, word_said, number_said, end_said, last_number_said, bytes_said};
 
 use crate::complaint::Complaint;
@@ -12,10 +11,7 @@ use text::words::next_word;
 pub fn word(line: &[u8]) -> Result<(&[u8], &[u8]), Complaint>
     ensures { rested (λ x. x.now) result ≡ word_said line.now }
 {
-    match next_word(line) {
-        Some(pair) => Ok(pair),
-        None => Err(Complaint::MissingWord),
-    }
+    next_word(line).ok_or(Complaint::MissingWord)
 }
 
 pub fn number(line: &[u8], max: u32) -> Result<(u32, &[u8]), Complaint>
@@ -23,8 +19,7 @@ pub fn number(line: &[u8], max: u32) -> Result<(u32, &[u8]), Complaint>
     ensures bound { IfOk result (λ p. p.0 ≤ max) }
 {
     let (digits, rest) = word(line)?;
-    let value = read_number(digits, max)?;
-    Ok((value, rest))
+    Ok((read_number(digits, max)?, rest))
 }
 
 pub fn end(line: &[u8]) -> Result<(), Complaint>
@@ -56,18 +51,5 @@ pub fn byte(line: &[u8]) -> Result<(u8, &[u8]), Complaint>
 pub fn bytes(heap: Global, line: &[u8]) -> Result<Vec<u8>, Complaint>
     ensures { Meets vec_items result (bytes_said line.now) }
 {
-    let bytes = read_hex(heap, line)?;
-    Ok(bytes)
-}
-
-fn same_bytes(a: &[u8], b: &[u8]) -> bool
-    ensures { result ≡ bytes_eq a.now b.now }
-{
-    a == b
-}
-
-pub fn is_word(word: &[u8], name: &[u8]) -> bool
-    ensures { result ≡ bytes_eq word.now name.now }
-{
-    same_bytes(word, name)
+    Ok(read_hex(heap, line)?)
 }

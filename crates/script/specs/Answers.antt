@@ -1,27 +1,11 @@
 -- How a transcript goes on with an answer.
-use Rattle.std.specs.Prelude.{ℕ, ◌+◌, List, [], ◌∷◌, ◌++◌, Some, None, Ok, Err, codes, Option, Result}
-use Rattle.calendar.specs.declared.DateTime.{DateTime}
+use Rattle.std.specs.Prelude.{ℕ, List, [], ◌++◌, Some, None, Ok, Err, codes, Option, Result}
 use Rattle.memory.specs.declared.fault.MemoryFault.{MemoryFault}
 use Rattle.text.specs.Digests.{digest_text}
-use Rattle.text.specs.Numerals.{decimal_text}
 use Rattle.text.specs.Pairs.{hex_text}
+use Rattle.lines.specs.Writing.{numbered, date_after}
 use Rattle.script.specs.declared.answer.Answer.{Answer}
 use Rattle.script.specs.declared.answer.Answer.TheVariants.{Image, Poked, Write, Block, Unsound, Digest, Second, Moment}
-
--- Text, a number, text.
-abbrev pub numbered : List ℕ → List ℕ → ℕ → List ℕ → List ℕ
-numbered before front n back = before ++ front ++ decimal_text 1 n ++ back
-
--- A number of at least so many digits, and a mark behind it.
-abbrev pub marked : List ℕ → ℕ → ℕ → ℕ → List ℕ
-marked before width n mark = before ++ decimal_text width n ++ mark ∷ []
-
--- YYYY-MM-DD HH:MM:SS and the weekday.
-abbrev pub date_after : List ℕ → DateTime → ℕ → List ℕ
-date_after before t weekday =
-    let year : List ℕ = marked before 4 (2000 + t.year) 45 in
-    let date : List ℕ = marked (marked year 2 t.month 45) 2 t.day 32 in
-    marked (marked (marked date 2 t.hour 58) 2 t.minute 58) 2 t.second 32 ++ decimal_text 1 weekday
 
 abbrev pub verdict_after : List ℕ → ℕ → Result (Unit {0}) MemoryFault → List ℕ
 verdict_after before n (Ok x) = numbered before (codes "write ") n (codes ": ok")

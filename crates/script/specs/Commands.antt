@@ -1,21 +1,20 @@
 -- What a line of a script asks for.
-use Rattle.std.specs.Prelude.{◌≡◌, ℕ, Bool, true, false, cond, List, length, Ok, Err, vec_items, Result, Vec, ◌==◌}
-use Rattle.std.specs.declared.alloc.Global.{Global}
-use Rattle.text.specs.declared.hex.HexFault.{HexFault}
-use Rattle.text.specs.declared.hex.HexFault.TheVariants as hex
-use Rattle.text.specs.Pairs.{hex_read}
+use Rattle.std.specs.Prelude.{ℕ, cond, List, length, Ok, Err, vec_items, Result, ◌==◌}
 use Rattle.calendar.specs.declared.DateTime.{DateTime}
 use Rattle.calendar.specs.Calendar.{dated}
 use Rattle.script.specs.declared.command.Make.{Make}
+use Rattle.script.specs.declared.command.BlockCommand.{BlockCommand}
+use Rattle.script.specs.declared.command.BlockCommand.TheVariants as blocks
 use Rattle.script.specs.declared.command.ImageCommand.{ImageCommand}
 use Rattle.script.specs.declared.command.ImageCommand.TheVariants as asking
 use Rattle.script.specs.declared.command.Command.{Command}
 use Rattle.script.specs.declared.command.Command.TheVariants as command
 use Rattle.script.specs.declared.command.Keyword.{Keyword}
 use Rattle.script.specs.declared.command.Keyword.TheVariants as keyword
-use Rattle.script.specs.declared.complaint.Complaint.{Complaint}
-use Rattle.script.specs.declared.complaint.Complaint.TheVariants as complaint
-use Rattle.script.specs.Lines.{and_then, word_said, number_said, byte_said, end_said, last_number_said, make_said, keyword_said}
+use Rattle.lines.specs.declared.complaint.Complaint.{Complaint}
+use Rattle.lines.specs.declared.complaint.Complaint.TheVariants as complaint
+use Rattle.lines.specs.Parts.{and_then, word_said, number_said, end_said, last_number_said, bytes_said}
+use Rattle.script.specs.Lines.{byte_said, make_said, keyword_said}
 
 -- Commands with the values of their parts: what is asked of an image, and any.
 pub data Asked : Type 0 where
@@ -31,50 +30,21 @@ pub data Said : Type 0 where
   second : DateTime → Said
   moment : ℕ → Said
 
+abbrev pub block_asked_of : BlockCommand → Asked
+block_asked_of (blocks.Write n bytes) = write n (vec_items bytes)
+block_asked_of (blocks.Unsound below) = unsound below
+block_asked_of (blocks.Block n) = block n
+
 abbrev pub asked_of : ImageCommand → Asked
 asked_of (asking.Poke offset bytes) = poke offset (vec_items bytes)
-asked_of (asking.Write n bytes) = write n (vec_items bytes)
-asked_of (asking.Unsound below) = unsound below
-asked_of (asking.Block n) = block n
 asked_of asking.Digest = digest
+asked_of (asking.Blocks c) = block_asked_of c
 
 abbrev pub said_of : Command → Said
 said_of (command.Image make bytes) = image make bytes
 said_of (command.On c) = on (asked_of c)
 said_of (command.Second date) = second date
 said_of (command.Moment s) = moment s
-
--- The one complaint that a line is not to blame for.
-abbrev pub short_of_memory : Complaint → Bool
-short_of_memory complaint.UnknownCommand = false
-short_of_memory complaint.UnknownMake = false
-short_of_memory complaint.MissingWord = false
-short_of_memory complaint.SurplusWord = false
-short_of_memory (complaint.Number e) = false
-short_of_memory (complaint.Hex hex.NotHex) = false
-short_of_memory (complaint.Hex hex.OddDigits) = false
-short_of_memory (complaint.Hex hex.NoMemory) = true
-short_of_memory complaint.NoBytes = false
-short_of_memory complaint.TooManyBytes = false
-short_of_memory complaint.NoImage = false
-short_of_memory complaint.OutsideImage = false
-short_of_memory complaint.NoMemory = true
-
--- What was read is what the line says, unless memory ran short.
-abbrev pub Meets : Result Command Complaint → Result Said Complaint → Type 0
-Meets (Ok c) said = said ≡ Ok (said_of c)
-Meets (Err e) said = short_of_memory e ≡ false → said ≡ Err e
-
-abbrev pub BytesMeet : Result (Vec ℕ Global) Complaint → Result (List ℕ) Complaint → Type 0
-BytesMeet (Ok v) said = said ≡ Ok (vec_items v)
-BytesMeet (Err e) said = short_of_memory e ≡ false → said ≡ Err e
-
-abbrev pub hexed : Result (List ℕ) HexFault → Result (List ℕ) Complaint
-hexed (Ok bytes) = Ok bytes
-hexed (Err e) = Err (complaint.Hex e)
-
-abbrev pub bytes_said : List ℕ → Result (List ℕ) Complaint
-bytes_said line = hexed (hex_read line)
 
 abbrev pub some_bytes_said : List ℕ → Result (List ℕ) Complaint
 some_bytes_said line = and_then (bytes_said line) (λ bytes. cond (length bytes == 0) (Err complaint.NoBytes) (Ok bytes))

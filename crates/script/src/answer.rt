@@ -1,14 +1,13 @@
 // What a command is answered, and the line that says so.
-ghost use Rattle.std.specs.Prelude.{◌≡◌, ℕ, List, [], ◌∷◌, ◌++◌, OnOk};
-ghost use Rattle.script.specs.Answers.{numbered, marked, date_after, verdict_after, content_after, lowest_after, answer_after};
+ghost use Rattle.std.specs.Prelude.{◌≡◌, [], ◌∷◌, ◌++◌, OnOk};
+ghost use Rattle.script.specs.Answers.{verdict_after, content_after, lowest_after, answer_after};
 
-use crate::complaint::Complaint;
 use calendar::DateTime;
+use lines::writing::{write_date, write_numbered};
 use memory::fault::MemoryFault;
 use std::alloc::AllocError;
 use text::digest::write_digest;
 use text::hex::write_hex;
-use text::number::{write_number, write_padded};
 
 #[derive(Clone, Copy)]
 pub enum Answer {
@@ -25,42 +24,6 @@ pub enum Answer {
     Second(Option<u32>),
     // A date-time and its weekday.
     Moment(Option<(DateTime, u8)>),
-}
-
-// Appends text, a number and text.
-fn write_numbered(
-    out: &mut Vec<u8>,
-    front: &[u8],
-    number: u32,
-    back: &[u8],
-) -> Result<(), AllocError>
-    ensures { OnOk result (out.new.items ≡ numbered out.old.items front.now number back.now) }
-{
-    out.extend_from_slice(front)?;
-    write_number(out, number)?;
-    out.extend_from_slice(back)?;
-    Ok(())
-}
-
-// Appends a number of at least so many digits, and a mark.
-fn write_marked(out: &mut Vec<u8>, number: u32, width: usize, mark: u8) -> Result<(), AllocError>
-    ensures { OnOk result (out.new.items ≡ marked out.old.items width number mark) }
-{
-    write_padded(out, number, width)?;
-    out.push(mark)?;
-    Ok(())
-}
-
-fn write_date(out: &mut Vec<u8>, date: DateTime, weekday: u8) -> Result<(), AllocError>
-    ensures { OnOk result (out.new.items ≡ date_after out.old.items date weekday) }
-{
-    write_marked(out, 2000 + u32::from(date.year), 4, b'-')?;
-    write_marked(out, u32::from(date.month), 2, b'-')?;
-    write_marked(out, u32::from(date.day), 2, b' ')?;
-    write_marked(out, u32::from(date.hour), 2, b':')?;
-    write_marked(out, u32::from(date.minute), 2, b':')?;
-    write_marked(out, u32::from(date.second), 2, b' ')?;
-    write_number(out, u32::from(weekday))
 }
 
 fn write_verdict(
@@ -130,16 +93,6 @@ pub fn write_answer(out: &mut Vec<u8>, answer: &Answer) -> Result<(), AllocError
     ensures { OnOk result (out.new.items ≡ answer_after out.old.items answer.now ++ 10 ∷ []) }
 {
     write_text(out, answer)?;
-    out.push(b'\n')?;
-    Ok(())
-}
-
-// Appends the line that says why a line of the script was not carried out. Its words are free.
-pub fn write_complaint(out: &mut Vec<u8>, complaint: Complaint) -> Result<(), AllocError>
-    ensures { OnOk result ((words : List ℕ) × (out.new.items ≡ out.old.items ++ 63 ∷ 32 ∷ [] ++ words ++ 10 ∷ [])) }
-{
-    out.extend_from_slice(b"? ")?;
-    out.extend_from_slice(complaint.words().as_bytes())?;
     out.push(b'\n')?;
     Ok(())
 }

@@ -21,18 +21,24 @@ pub enum Keyword {
     Moment,
 }
 
-// What is asked of an image.
+// What is asked of the blocks of an image.
 #[derive(Drop)]
-pub enum ImageCommand {
-    // Raw bytes of the image from an offset on.
-    Poke(u32, Vec<u8>),
+pub enum BlockCommand {
     // The first bytes of a block's content.
     Write(u32, Vec<u8>),
     // The lowest corrupt block below a number.
     Unsound(u32),
     // The content of a block.
     Block(u32),
+}
+
+// What is asked of an image.
+#[derive(Drop)]
+pub enum ImageCommand {
+    // Raw bytes of the image from an offset on.
+    Poke(u32, Vec<u8>),
     Digest,
+    Blocks(BlockCommand),
 }
 
 #[derive(Drop)]

@@ -3,6 +3,4 @@
 
 pub mod answer;
 pub mod command;
-pub mod complaint;
-mod parse;
 pub mod reader;

@@ -6,10 +6,11 @@ use Rattle.calendar.specs.Calendar.{second_if_real, date_if_in_range, weekday_of
 use Rattle.script.specs.declared.answer.Answer.{Answer}
 use Rattle.script.specs.declared.answer.Answer.TheVariants.{Image, Second, Moment}
 use Rattle.script.specs.declared.command.Make.{Make}
-use Rattle.script.specs.declared.complaint.Complaint.{Complaint}
-use Rattle.script.specs.declared.complaint.Complaint.TheVariants.{NoImage, Number, NoMemory}
+use Rattle.lines.specs.declared.complaint.Complaint.{Complaint}
+use Rattle.lines.specs.declared.complaint.Complaint.TheVariants.{NoImage, Number, NoMemory}
 use Rattle.text.specs.declared.number.NumberFault.TheVariants.{TooLarge}
-use Rattle.script.specs.Commands.{Asked, Said, image, on, second, moment, short_of_memory}
+use Rattle.lines.specs.Parts.{short_of_memory}
+use Rattle.script.specs.Commands.{Asked, Said, image, on, second, moment}
 use Rattle.session.specs.declared.held.HeldImage.{HeldImage}
 use Rattle.session.specs.declared.session.Session.{Session}
 use Rattle.session.specs.declared.session.Session.TheVariants.{Empty, Cold}

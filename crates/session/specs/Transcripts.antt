@@ -2,7 +2,7 @@
 use Rattle.std.specs.Prelude.{◌≡◌, ℕ, true, false, List, [], ◌∷◌, ◌++◌, Ok, Err, MatchBool, Result}
 use Rattle.text.specs.Lines.{is_comment, echo_of}
 use Rattle.script.specs.declared.answer.Answer.{Answer}
-use Rattle.script.specs.declared.complaint.Complaint.{Complaint}
+use Rattle.lines.specs.declared.complaint.Complaint.{Complaint}
 use Rattle.script.specs.Answers.{answer_after}
 use Rattle.script.specs.Commands.{Said, command_said}
 use Rattle.session.specs.Sessions.{State, answered, state_after, short}

@@ -1,21 +1,20 @@
 // What is asked of an image of either make that lies in some bytes.
 ghost use Rattle.std.specs.Prelude.{◌≡◌, ◌≤◌, length};
-ghost use Rattle.memory.specs.Blocks.{lowest_corrupt};
-ghost use Rattle.memory.specs.Verdicts.{read_content, read_verdict, write_verdict};
-ghost use Rattle.script.specs.Commands.{asked_of, poke, write};
-ghost use Rattle.session.specs.Images.{size_of, blocks_of, written_to, zero_content, content_read};
-ghost use Rattle.session.specs.Asking.{answer_on, bytes_after};
+ghost use Rattle.script.specs.Commands.{block_asked_of, asked_of, poke};
+ghost use Rattle.session.specs.Images.{size_of, content_read};
+ghost use Rattle.session.specs.Asking.{answer_on, bytes_after, blocks_answer, BlocksAfter};
 
 use fields::bytes::put_bytes;
+use lines::complaint::Complaint;
 use memory::bare::BareImage;
 use memory::checked::CheckedImage;
 use memory::fault::MemoryFault;
 use memory::memory::{BlockMemory, CONTENT};
 use script::answer::Answer;
-use script::command::{ImageCommand, Make};
-use script::complaint::Complaint;
+use script::command::{BlockCommand, ImageCommand, Make};
 use text::digest::digest;
 
+// Picks the image a second time: no closure is generic over the memory, so one function cannot pick it for both.
 pub(crate) fn size(make: Make, bytes: &mut [u8]) -> u32
     ensures value { result ≡ size_of make bytes.old }
     ensures same { bytes.new ≡ bytes.old }
@@ -26,73 +25,44 @@ pub(crate) fn size(make: Make, bytes: &mut [u8]) -> u32
     }
 }
 
-fn lowest_corrupt(make: Make, bytes: &mut [u8], below: u32) -> Option<u32>
-    ensures value { result ≡ lowest_corrupt below (blocks_of make bytes.old) }
-    ensures same { bytes.new ≡ bytes.old }
+// The content of a block.
+fn read_block<M: BlockMemory>(memory: &M, n: u32) -> Result<[u8; CONTENT], MemoryFault>
+    ensures { result ≡ content_read (M.BlockMemory.blocks memory.now) n }
 {
-    match make {
-        Make::Bare => BareImage::new(bytes).lowest_corrupt(below),
-        Make::Checked => CheckedImage::new(bytes).lowest_corrupt(below),
-    }
-}
-
-fn zeros() -> [u8; CONTENT]
-    ensures value { result ≡ zero_content }
-    ensures long { length result ≡ 510 }
-{
-    [0; CONTENT]
-}
-
-fn read_into(
-    make: Make,
-    bytes: &mut [u8],
-    n: u32,
-    content: &mut [u8; CONTENT],
-) -> Result<(), MemoryFault>
-    ensures answer { result ≡ read_verdict (blocks_of make bytes.old) n }
-    ensures content { content.new ≡ read_content (blocks_of make bytes.old) n content.old }
-    ensures same { bytes.new ≡ bytes.old }
-{
-    match make {
-        Make::Bare => BareImage::new(bytes).read(n, content),
-        Make::Checked => CheckedImage::new(bytes).read(n, content),
-    }
-}
-
-fn read_block(make: Make, bytes: &mut [u8], n: u32) -> Result<[u8; CONTENT], MemoryFault>
-    ensures value { result ≡ content_read (blocks_of make bytes.old) n }
-    ensures same { bytes.new ≡ bytes.old }
-{
-    let mut content = zeros();
-    read_into(make, bytes, n, &mut content)?;
+    let mut content = [0; CONTENT];
+    memory.read(n, &mut content)?;
     Ok(content)
 }
 
-fn write_content(
-    make: Make,
-    bytes: &mut [u8],
-    n: u32,
-    content: &[u8; CONTENT],
-) -> Result<(), MemoryFault>
-    ensures answer { result ≡ write_verdict (blocks_of make bytes.old) n }
-    ensures after { bytes.new ≡ written_to make bytes.old n content.now }
+// Answers what is asked of the blocks of a memory.
+#[tactic(auto, unfolding(crate::specs::Images::zero_content))]
+fn ask<M: BlockMemory>(memory: &mut M, command: &BlockCommand) -> Result<Answer, Complaint>
+    ensures answer { result ≡ blocks_answer (M.BlockMemory.blocks memory.old) command.now }
+    ensures after { BlocksAfter M.BlockMemory.rewrites memory.old command.now memory.new }
 {
-    match make {
-        Make::Bare => BareImage::new(bytes).write(n, content),
-        Make::Checked => CheckedImage::new(bytes).write(n, content),
+    match command {
+        BlockCommand::Write(n, given) => {
+            if given.len() > CONTENT {
+                return Err(Complaint::TooManyBytes);
+            }
+            let mut content = [0; CONTENT];
+            put_bytes(&mut content, 0, given.as_slice());
+            Ok(Answer::Write(*n, memory.write(*n, &content)))
+        }
+        BlockCommand::Unsound(below) => Ok(Answer::Unsound(memory.lowest_corrupt(*below))),
+        BlockCommand::Block(n) => Ok(Answer::Block(*n, read_block(memory, *n))),
     }
 }
 
-fn write_block(make: Make, bytes: &mut [u8], n: u32, given: &[u8]) -> Result<Answer, Complaint>
-    ensures answer { result ≡ answer_on make bytes.old (write n given.now) }
-    ensures after { bytes.new ≡ bytes_after make bytes.old (write n given.now) }
+// The same of the image that lies in some bytes.
+fn ask_image(make: Make, bytes: &mut [u8], command: &BlockCommand) -> Result<Answer, Complaint>
+    ensures answer { result ≡ answer_on make bytes.old (block_asked_of command.now) }
+    ensures after { bytes.new ≡ bytes_after make bytes.old (block_asked_of command.now) }
 {
-    if given.len() > CONTENT {
-        return Err(Complaint::TooManyBytes);
+    match make {
+        Make::Bare => ask(&mut BareImage::new(bytes), command),
+        Make::Checked => ask(&mut CheckedImage::new(bytes), command),
     }
-    let mut content = zeros();
-    put_bytes(&mut content, 0, given);
-    Ok(Answer::Write(n, write_content(make, bytes, n, &content)))
 }
 
 fn overwrite(make: Make, bytes: &mut [u8], offset: u32, given: &[u8]) -> Result<Answer, Complaint>
@@ -120,9 +90,7 @@ pub(crate) fn answer(
 {
     match command {
         ImageCommand::Poke(offset, given) => overwrite(make, bytes, *offset, given.as_slice()),
-        ImageCommand::Write(n, given) => write_block(make, bytes, *n, given.as_slice()),
-        ImageCommand::Unsound(below) => { Ok(Answer::Unsound(lowest_corrupt(make, bytes, *below))) }
-        ImageCommand::Block(n) => Ok(Answer::Block(*n, read_block(make, bytes, *n))),
         ImageCommand::Digest => Ok(Answer::Digest(digest(bytes))),
+        ImageCommand::Blocks(asked) => ask_image(make, bytes, asked),
     }
 }

@@ -4,8 +4,8 @@ ghost use Rattle.session.specs.Sessions.{state_of};
 ghost use Rattle.session.specs.Transcripts.{Obeyed, Shown, Responded};
 
 use crate::session::Session;
-use script::answer::{Answer, write_answer, write_complaint};
-use script::complaint::Complaint;
+use lines::complaint::{Complaint, write_complaint};
+use script::answer::{Answer, write_answer};
 use script::reader::read_command;
 use std::alloc::{AllocError, Global};
 use text::words::{is_comment, write_echo};

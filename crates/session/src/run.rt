@@ -9,21 +9,14 @@ use crate::held::HeldImage;
 use crate::image::{answer, size};
 use crate::session::Session;
 use calendar::{DateTime, from_second, weekday_at};
+use lines::complaint::Complaint;
 use script::answer::Answer;
 use script::command::{Command, ImageCommand, Make};
-use script::complaint::Complaint;
 use std::alloc::{AllocError, Global};
 use text::number::NumberFault;
 
 // The most bytes that an image may have.
 const LIMIT: u32 = 16_777_216;
-
-fn zero_bytes(heap: Global, count: usize) -> Result<Vec<u8>, AllocError>
-    ensures items { IfOk result (λ v. v.items ≡ replicate count 0) }
-    ensures len { IfOk result (λ v. vec_len v ≡ count) }
-{
-    vec![in heap; 0; count]
-}
 
 impl HeldImage {
     fn size(&mut self) -> u32
@@ -47,7 +40,7 @@ fn new_image(heap: Global, make: Make, count: u32) -> Result<(HeldImage, u32), C
     if count > LIMIT {
         return Err(Complaint::Number(NumberFault::TooLarge));
     }
-    let bytes = zero_bytes(heap, count as usize)?;
+    let bytes = vec![in heap; 0; count as usize]?;
     let mut held = HeldImage { make, bytes };
     let size = held.size();
     Ok((held, size))

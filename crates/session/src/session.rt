@@ -1,4 +1,4 @@
-// A session has no image yet, or one.
+// A session has no image yet, or one. An enum of its own, and not an Option: a started meter is to be the next variant.
 use crate::held::HeldImage;
 
 #[derive(Drop)]

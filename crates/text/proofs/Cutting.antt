@@ -1,10 +1,9 @@
 -- A line cut into its words.
-use Rattle.std.proofs.Common.{◌≡◌, ℕ, suc, ◌<◌, Bool, true, false, not, eqb, List, [], ◌∷◌, ◌++◌, length, take, drop, Some, sym, refl, ap, ◌∙◌, ⊎_elim, one-add, arith}
-use mathlib.Core.Bool.{beq}
+use Rattle.std.proofs.Common.{◌≡◌, ℕ, suc, ◌<◌, Bool, true, false, List, [], ◌∷◌, ◌++◌, length, take, drop, sym, refl, ap, ◌∙◌, ⊎_elim, one-add, arith}
 use Rattle.std.specs.List.{prefix_len, flat_map}
 use Rattle.std.proofs.lemmas.List.{append-nil, append_assoc}
 use Rattle.std.proofs.lemmas.Bool.{cases_Bool, not_from_true, not_from_false}
-use Rattle.text.specs.Lines.{blank, of_kind, past_blanks, split_word, words_after, words_of, spaced}
+use Rattle.text.specs.Lines.{blank, of_kind, past_blanks, words_after, words_of, spaced}
 
 lead_yes : (p : ℕ → Bool) (c : ℕ) (cs : List ℕ) → p c ≡ true → prefix_len p (c ∷ cs) ≡ suc (prefix_len p cs)
 lead_yes p c cs e = rw e (one-add (prefix_len p cs))
@@ -65,19 +64,6 @@ unfolding words_of
 words_none [] none = refl
 words_none (c ∷ cs) none = absurd (omega arith)
 
-pub kind_is : (kind b : Bool) (c : ℕ) → b ≡ blank c → of_kind kind c ≡ beq b kind
-kind_is true true c e = sym e
-kind_is true false c e = sym e
-kind_is false true c e = ap not (sym e)
-kind_is false false c e = ap not (sym e)
-
-pub split_is : (bytes x y : List ℕ) (n : ℕ) → eqb (length bytes) 0 ≡ false → n ≡ prefix_len (of_kind false) bytes → x ≡ take n bytes → y ≡ drop n bytes → Some (x, y) ≡ split_word bytes
-unfolding split_word
-split_is bytes x y n some long front back = rw (some, ← long, front, back)
-
-pub words_cut : (bytes x y : List ℕ) (n : ℕ) → prefix_len blank bytes ≡ 0 → 0 < length bytes → n ≡ prefix_len (of_kind false) bytes → x ≡ take n bytes → y ≡ drop n bytes → words_of bytes ≡ x ∷ words_of y
-words_cut bytes x y n solid some long front back = rw (front, back, long) (words_split bytes solid some)
-
 pub word_some : (bytes : List ℕ) → prefix_len blank bytes ≡ 0 → 0 < length bytes → 0 < prefix_len (of_kind false) bytes
 word_some [] solid some = absurd (omega arith)
 word_some (c ∷ cs) solid some = rw (lead_yes (of_kind false) c cs (not_from_false (blank c) (not_blank c cs solid))) (omega arith)
@@ -89,10 +75,6 @@ after ws = flat_map (λ v. 32 ∷ v) ws
 pub spaced_none : (out : List ℕ) (ws : List (List ℕ)) → ws ≡ [] → out ≡ out ++ spaced ws
 unfolding spaced
 spaced_none out ws none = rw none (sym (append-nil out))
-
-pub spaced_more : (out mid next w whole : List ℕ) (ws vs : List (List ℕ)) → ws ≡ w ∷ vs → mid ≡ out ++ 32 ∷ [] → next ≡ mid ++ w → out ++ after ws ≡ whole → next ++ after vs ≡ whole
-spaced_more out mid next w whole ws vs cut gap put before =
-    ap (λ (l : List ℕ). l ++ after vs) (put ∙ ap (λ (l : List ℕ). l ++ w) gap) ∙ append_assoc (out ++ 32 ∷ []) w (after vs) ∙ append_assoc out (32 ∷ []) (w ++ after vs) ∙ ap (λ (l : List (List ℕ)). out ++ after l) (sym cut) ∙ before
 
 pub spaced_all : (start first out w : List ℕ) (ws vs us : List (List ℕ)) → ws ≡ w ∷ vs → first ≡ start ++ w → us ≡ [] → out ++ after us ≡ first ++ after vs → out ≡ start ++ spaced ws
 unfolding spaced

@@ -2,4 +2,3 @@ pub mod Cutting
 pub mod Pairing
 pub mod Reading
 pub mod Spelling
-pub mod Tails

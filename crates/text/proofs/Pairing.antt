@@ -3,7 +3,7 @@ use Rattle.std.proofs.Common.{◌≡◌, ℕ, ◌+◌, ◌*◌, ◌/◌, ◌%◌
 use Rattle.std.specs.List.{flat_map}
 use Rattle.std.specs.Char.{digit_value}
 use Rattle.std.specs.Int.Digits.{AllBelowBase}
-use Rattle.std.proofs.lemmas.List.{append-nil, append_assoc, flat_map_more, take_more, take_all, at_drop_more}
+use Rattle.std.proofs.lemmas.List.{append-nil, append_assoc, take_all, at_drop_more}
 use Rattle.std.proofs.lemmas.Bool.Decides.{nat_tests}
 use Rattle.text.specs.declared.hex.HexFault.{HexFault}
 use Rattle.text.specs.declared.hex.HexFault.TheVariants.{NotHex}
@@ -21,14 +21,8 @@ module _ (done : List ℕ) (high : Option ℕ) (line : List ℕ) (i : ℕ) (with
   opened : read_on done high (drop i line) ≡ read_on done high (get_or line i 0 ∷ drop (i + 1) line)
   opened = at_drop_more (read_on done high) line i 0 within
 
-  pub read_blank : blank (get_or line i 0) ≡ true → read_on done high (drop i line) ≡ read_on done high (drop (i + 1) line)
-  read_blank e = opened ∙ rw e
-
   pub read_other : blank (get_or line i 0) ≡ false → ltb (digit_value (get_or line i 0)) 16 ≡ false → read_on done high (drop i line) ≡ Err NotHex
   read_other e d = opened ∙ rw (e, d)
-
-  pub read_digit : (next : List ℕ) (rest : Option ℕ) → blank (get_or line i 0) ≡ false → ltb (digit_value (get_or line i 0)) 16 ≡ true → (next, rest) ≡ taken done high (digit_value (get_or line i 0)) → read_on done high (drop i line) ≡ read_on next rest (drop (i + 1) line)
-  read_digit next rest e d after = opened ∙ rw (e, d, ← after)
 
 -- the same by the whole line's digits
 abbrev onto : List ℕ → Result (List ℕ) HexFault → Result (List ℕ) HexFault
@@ -76,11 +70,6 @@ unfolding pairs_text
 pairs_none separator out [] none = sym (append-nil out)
 pairs_none separator out (b ∷ bs) none = absurd (omega arith)
 
-pub pairs_more : (separator i : ℕ) (start out mid next rest : List ℕ) → i < length rest → out ≡ start ++ behind separator (take i rest) → mid ≡ out ++ separator ∷ [] → next ≡ mid ++ pair_text (get_or rest i 0) → next ≡ start ++ behind separator (take (i + 1) rest)
-pairs_more separator i start out mid next rest within before gap put =
-    let pair = pair_text (get_or rest i 0) in
-    put ∙ ap (λ (l : List ℕ). l ++ pair) gap ∙ append_assoc out (separator ∷ []) pair ∙ ap (λ (l : List ℕ). l ++ separator ∷ pair) before ∙ flat_map_more (λ c. separator ∷ pair_text c) start (take i rest) (get_or rest i 0) ∙ ap (λ (l : List ℕ). start ++ behind separator l) (sym (take_more rest i 0 within))
-
 pub pairs_all : (separator i b : ℕ) (start first out rest bytes : List ℕ) → length rest ≤ i → bytes ≡ b ∷ rest → first ≡ start ++ pair_text b → out ≡ first ++ behind separator (take i rest) → out ≡ start ++ pairs_text separator bytes
 unfolding pairs_text
 pairs_all separator i b start first out rest bytes end all put before =
@@ -127,7 +116,3 @@ reads_back (b ∷ bs) small = pair_back b (behind 32 bs) bs small.0 (behind_back
 pub no_digit : (t : Bool) (v : ℕ) → None ≡ cond t (Some v) None → t ≡ false
 no_digit true v e = let z : ◌≡◌ {A = ℕ} 0 1 = cc in absurd (omega arith)
 no_digit false v e = refl
-
-pub some_digit : (t : Bool) (low v : ℕ) → Some low ≡ cond t (Some v) None → (t ≡ true) × (low ≡ v)
-some_digit true low v e = (refl, cc)
-some_digit false low v e = let z : ◌≡◌ {A = ℕ} 0 1 = cc in absurd (omega arith)

@@ -1,10 +1,10 @@
 -- Digits read one by one, and a number read back.
-use Rattle.std.proofs.Common.{◌≡◌, ℕ, zero, suc, ◌+◌, ◌-◌, ◌*◌, ◌<◌, ◌≤◌, min, true, false, ◌&&◌, List, [], ◌∷◌, ◌++◌, map, length, get_or, drop, replicate, Ok, refl, ap, ◌∙◌, arith}
+use Rattle.std.proofs.Common.{◌≡◌, ℕ, zero, suc, ◌+◌, ◌-◌, ◌*◌, ◌<◌, ◌≤◌, min, true, ◌&&◌, List, [], ◌∷◌, ◌++◌, map, length, get_or, drop, replicate, Ok, refl, ap, ◌∙◌, arith}
 use Rattle.std.specs.Char.{is_ascii_digit}
 use Rattle.std.specs.Int.Digits.{digits_of, AllBelowBase, number_from_digits_after}
 use Rattle.std.proofs.lemmas.Int.Digits.{all_below_base_digits_of, number_digits_of}
 use Rattle.std.proofs.lemmas.List.{length-append, length-map, length-replicate, at_drop_more}
-use Rattle.std.proofs.lemmas.Bool.{and_from, and_left}
+use Rattle.std.proofs.lemmas.Bool.{and_from}
 use Rattle.std.proofs.lemmas.Bool.Decides.{nat_tests}
 use Rattle.text.specs.Figures.{lower_digit, padded, digits_text}
 use Rattle.text.specs.Numerals.{all_digits, value_after, value_of, number_read, NumbersReadBack}
@@ -17,9 +17,6 @@ capped_same limit a b (c ∷ cs) e =
     capped_same limit (a * 10 + (c - 48)) (b * 10 + (c - 48)) cs next
 
 module _ (word : List ℕ) (i : ℕ) (within : i < length word) where
-  pub digits_stop : is_ascii_digit (get_or word i 0) ≡ false → all_digits (drop i word) ≡ false
-  digits_stop bad = at_drop_more all_digits word i 0 within ∙ and_left (is_ascii_digit (get_or word i 0)) (all_digits (drop (i + 1) word)) bad
-
   pub digits_more : is_ascii_digit (get_or word i 0) ≡ true → all_digits (drop i word) ≡ all_digits (drop (i + 1) word)
   digits_more good =
       let step : all_digits (drop i word) ≡ (is_ascii_digit (get_or word i 0) && all_digits (drop (i + 1) word)) = at_drop_more all_digits word i 0 within in

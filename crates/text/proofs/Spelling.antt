@@ -1,6 +1,6 @@
 -- A number's digits, one by one from the lowest.
-use Rattle.std.proofs.Common.{◌≡◌, ℕ, ◌+◌, ◌-◌, ◌/◌, ◌%◌, ◌<◌, ◌≤◌, List, [], ◌∷◌, ◌++◌, map, reverse, length, take, drop, replicate, sym, refl, ap, ◌∙◌, subst, ⊎_elim, div-le_self, arith}
-use native.Mathlib.Nat.{zero-div, zero-mod, div-lt_self}
+use Rattle.std.proofs.Common.{◌≡◌, ℕ, ◌+◌, ◌-◌, ◌/◌, ◌%◌, ◌<◌, ◌≤◌, List, [], ◌∷◌, ◌++◌, map, reverse, length, take, drop, replicate, sym, refl, ap, ◌∙◌, subst, ⊎_elim, arith}
+use native.Mathlib.Nat.{zero-div, zero-mod}
 use Rattle.std.specs.Int.Digits.{digits_of}
 use Rattle.std.proofs.lemmas.Int.Digits.{digits_of_step}
 use Rattle.std.proofs.lemmas.List.{append-nil, append_assoc, map-append, length_push, replicate_more, reverse-append, take_at, drop_at}
@@ -68,7 +68,3 @@ written_all {before} {after} {base} {width} {number} start long none last w =
     let back : drop start after ≡ w.low = ap (λ (l : List ℕ). drop start l) w.is ∙ drop_at before w.low start (sym long) in
     let spelt : reverse w.low ≡ digits_text base width number = rw (none, last, digits_text_none base) at w.whole in
     cc
-
-pub falls : (base missing rest : ℕ) → 2 ≤ base → 0 < rest + missing → rest / base + (missing - 1) < rest + missing
-falls base missing rest two some =
-    ⊎_elim (λ more. omega (arith, div-lt_self {n = rest} {k = base} more two)) (λ none. omega (arith, div-le_self rest base)) (cases_lt 0 rest)

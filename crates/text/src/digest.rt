@@ -1,5 +1,5 @@
 // The digest of a byte string: FNV-1a with 64 bits.
-ghost use Rattle.std.specs.Prelude.{◌≡◌, ◌++◌, fold, OnOk};
+ghost use Rattle.std.specs.Prelude.{◌≡◌, ◌++◌, OnOk};
 ghost use Rattle.text.specs.Digests.{mixed, digest_of, digest_text};
 
 use crate::digits::write_digits;
@@ -11,21 +11,13 @@ fn mix(hash: u64, byte: u8) -> u64
     (hash ^ u64::from(byte)).wrapping_mul(1099511628211)
 }
 
-fn digest_from(start: u64, bytes: &[u8]) -> u64
-    ensures { result ≡ fold mixed start bytes.now }
-{
-    let mut hash = start;
-    for byte in bytes {
-        hash = mix(hash, *byte);
-    }
-    hash
-}
-
 // The FNV-1a digest of the bytes.
 pub fn digest(bytes: &[u8]) -> u64
     ensures { result ≡ digest_of bytes.now }
 {
-    digest_from(14695981039346656037, bytes)
+    bytes
+        .iter()
+        .fold(14695981039346656037, |hash, byte| mix(hash, *byte))
 }
 
 // Appends a digest as sixteen lower-case hex digits.

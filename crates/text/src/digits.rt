@@ -16,16 +16,12 @@ pub(crate) fn lower_digit(value: u8) -> u8
     }
 }
 
-// The digit of a value below 36: a decimal digit or an upper-case letter.
+// The same with an upper-case letter.
 pub(crate) fn upper_digit(value: u8) -> u8
     requires { value < 36 }
     ensures { result ≡ upper_digit value }
 {
-    if value < 10 {
-        b'0' + value
-    } else {
-        b'A' - 10 + value
-    }
+    lower_digit(value).to_ascii_uppercase()
 }
 
 // Turns the items from `start` on around.

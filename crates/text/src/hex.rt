@@ -6,8 +6,9 @@ ghost use Rattle.text.specs.Pairs.{Value, taken, whole, hex_read, Refuses, pair_
 
 use crate::digits::upper_digit;
 use crate::words::is_blank;
-use std::alloc::{AllocError, Global};
+use std::alloc::{AllocError, AllocFailed, Global};
 
+// No Display: its words stand once, with those of the complaints that it is part of.
 #[derive(Clone, Copy, PartialEq, Eq, Debug)]
 pub enum HexFault {
     NotHex,
@@ -15,14 +16,19 @@ pub enum HexFault {
     NoMemory,
 }
 
+impl<T: Drop> From<AllocFailed<T>> for HexFault {
+    ghost from_gives = { λ e r. r ≡ NoMemory };
+
+    fn from(_: AllocFailed<T>) -> HexFault {
+        Self::NoMemory
+    }
+}
+
 // The value of a hex digit, in either case.
 fn digit_value(byte: u8) -> Option<u8>
     ensures { result ≡ (if nat_lt (digit_value byte) 16 then Some (digit_value byte) else None) }
 {
-    match char::from(byte).to_digit(16) {
-        Some(value) => Some(value as u8),
-        None => None,
-    }
+    char::from(byte).to_digit(16).map(|value| value as u8)
 }
 
 // Takes a digit: it opens a pair, or ends the pair that `high` opened.
@@ -33,9 +39,7 @@ fn take_digit(read: &mut Vec<u8>, high: Option<u8>, low: u8) -> Result<Option<u8
     match high {
         None => Ok(Some(low)),
         Some(value) => {
-            if read.push(value * 16 + low).is_err() {
-                return Err(HexFault::NoMemory);
-            }
+            read.push(value * 16 + low)?;
             Ok(None)
         }
     }
@@ -76,7 +80,8 @@ fn write_pair(out: &mut Vec<u8>, byte: u8) -> Result<(), AllocError>
     out.extend_from_slice(&[upper_digit(byte / 16), upper_digit(byte % 16)])
 }
 
-fn write_list(out: &mut Vec<u8>, bytes: &[u8], separator: u8) -> Result<(), AllocError>
+// Appends each byte as a pair of digits, with the separator between two pairs.
+fn write_pairs(out: &mut Vec<u8>, bytes: &[u8], separator: u8) -> Result<(), AllocError>
     ensures { OnOk result (out.new.items ≡ out.old.items ++ pairs_text separator bytes.now) }
 {
     let Some((first, rest)) = bytes.split_first() else {
@@ -90,15 +95,8 @@ fn write_list(out: &mut Vec<u8>, bytes: &[u8], separator: u8) -> Result<(), Allo
     Ok(())
 }
 
-// Appends each byte as a pair of digits, with the separator between two pairs.
-fn write_pairs(out: &mut Vec<u8>, bytes: &[u8], separator: u8) -> Result<(), AllocError>
-    ensures text { OnOk result (out.new.items ≡ out.old.items ++ pairs_text separator bytes.now) }
-    ensures back { BytesReadBack }
-{
-    write_list(out, bytes, separator)
-}
-
 // Appends each byte as two upper-case hex digits, with a space between two bytes.
+#[tactic(auto, using(crate::proofs::Pairing::reads_back))]
 pub fn write_hex(out: &mut Vec<u8>, bytes: &[u8]) -> Result<(), AllocError>
     ensures text { OnOk result (out.new.items ≡ out.old.items ++ hex_text bytes.now) }
     ensures back { BytesReadBack }

@@ -5,6 +5,7 @@ ghost use Rattle.text.specs.Numerals.{all_digits, value_of, number_read, decimal
 use crate::digits::write_digits;
 use std::alloc::AllocError;
 
+// No Display: its words stand once, with those of the complaints that it is part of.
 #[derive(Clone, Copy, PartialEq, Eq, Debug)]
 pub enum NumberFault {
     NotDecimal,
@@ -26,7 +27,9 @@ fn capped_value(word: &[u8], limit: u64) -> Option<u64>
     Some(value)
 }
 
-fn read_up_to(word: &[u8], max: u32) -> Result<u32, NumberFault>
+// The number that a word writes in decimal digits, if it is at most `max`.
+#[tactic(auto, unfolding(crate::specs::Numerals::number_read))]
+pub fn read_number(word: &[u8], max: u32) -> Result<u32, NumberFault>
     ensures value { result ≡ number_read max word.now }
     ensures bound { IfOk result (λ n. n ≤ max) }
 {
@@ -34,38 +37,19 @@ fn read_up_to(word: &[u8], max: u32) -> Result<u32, NumberFault>
         return Err(NumberFault::NotDecimal);
     }
     match capped_value(word, u64::from(max) + 1) {
+        Some(value) if value <= u64::from(max) => Ok(value as u32),
+        Some(_) => Err(NumberFault::TooLarge),
         None => Err(NumberFault::NotDecimal),
-        Some(value) => {
-            if value > u64::from(max) {
-                Err(NumberFault::TooLarge)
-            } else {
-                Ok(value as u32)
-            }
-        }
     }
 }
 
-// The number that a word writes in decimal digits, if it is at most `max`.
-pub fn read_number(word: &[u8], max: u32) -> Result<u32, NumberFault>
-    ensures value { result ≡ number_read max word.now }
-    ensures bound { IfOk result (λ n. n ≤ max) }
-{
-    read_up_to(word, max)
-}
-
-fn write_decimal(out: &mut Vec<u8>, number: u32, width: usize) -> Result<(), AllocError>
-    ensures text { OnOk result (out.new.items ≡ out.old.items ++ decimal_text width number) }
-    ensures back { NumbersReadBack }
-{
-    write_digits(out, u64::from(number), 10, width)
-}
-
 // Appends a number in decimal digits, with zeros in front up to `width` digits.
+#[tactic(auto, using(crate::proofs::Reading::reads_back))]
 pub fn write_padded(out: &mut Vec<u8>, number: u32, width: usize) -> Result<(), AllocError>
     ensures text { OnOk result (out.new.items ≡ out.old.items ++ decimal_text width number) }
     ensures back { NumbersReadBack }
 {
-    write_decimal(out, number, width)
+    write_digits(out, u64::from(number), 10, width)
 }
 
 // Appends a number in decimal digits, with no zero in front.
@@ -73,5 +57,5 @@ pub fn write_number(out: &mut Vec<u8>, number: u32) -> Result<(), AllocError>
     ensures text { OnOk result (out.new.items ≡ out.old.items ++ decimal_text 1 number) }
     ensures back { NumbersReadBack }
 {
-    write_decimal(out, number, 1)
+    write_padded(out, number, 1)
 }

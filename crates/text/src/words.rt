@@ -17,11 +17,10 @@ fn run_length(bytes: &[u8], blanks: bool) -> usize
     ensures value { result ≡ prefix_len (of_kind blanks) bytes.now }
     ensures bound { result ≤ length bytes.now }
 {
-    let mut count = 0;
-    while count < bytes.len() && is_blank(bytes[count]) == blanks {
-        count += 1;
-    }
-    count
+    bytes
+        .iter()
+        .take_while(|byte| is_blank(**byte) == blanks)
+        .count()
 }
 
 fn past_blanks(line: &[u8]) -> &[u8]
@@ -35,6 +34,7 @@ fn past_blanks(line: &[u8]) -> &[u8]
 }
 
 // The word that the bytes begin with, and what stands behind it.
+#[tactic(auto, using(crate::proofs::Cutting::words_none, crate::proofs::Cutting::words_split, crate::proofs::Cutting::word_some), unfolding(crate::specs::Lines::split_word))]
 fn split_word(bytes: &[u8]) -> Option<(&[u8], &[u8])>
     requires { prefix_len blank bytes.now ≡ 0 }
     ensures value { option_map (λ p. (p.0.now, p.1.now)) result ≡ split_word bytes.now }
@@ -60,8 +60,7 @@ pub fn next_word(line: &[u8]) -> Option<(&[u8], &[u8])>
 pub fn is_comment(line: &[u8]) -> bool
     ensures { result ≡ is_comment line.now }
 {
-    let rest = past_blanks(line);
-    rest.is_empty() || rest[0] == b'#'
+    past_blanks(line).first().is_none_or(|byte| *byte == b'#')
 }
 
 // Appends the words of a line, with a space between two.
@@ -80,16 +79,10 @@ fn write_words(out: &mut Vec<u8>, line: &[u8]) -> Result<(), AllocError>
     Ok(())
 }
 
-fn write_marked(out: &mut Vec<u8>, mark: &[u8], line: &[u8]) -> Result<(), AllocError>
-    ensures { OnOk result (out.new.items ≡ out.old.items ++ (mark.now ++ spaced (words_of line.now))) }
-{
-    out.extend_from_slice(mark)?;
-    write_words(out, line)
-}
-
 // Appends `> ` and the words of a line, with a space between two.
 pub fn write_echo(out: &mut Vec<u8>, line: &[u8]) -> Result<(), AllocError>
     ensures { OnOk result (out.new.items ≡ out.old.items ++ echo_of line.now) }
 {
-    write_marked(out, b"> ", line)
+    out.extend_from_slice(b"> ")?;
+    write_words(out, line)
 }

@@ -1,27 +1,18 @@
-use Rattle.std.proofs.Common.{◌+◌, ◌<◌, [], ◌∷◌, length, vec_items, refl, ap, ◌∙◌, arith, length-append}
+use Rattle.std.proofs.Common.{◌+◌, ◌<◌, [], ◌∷◌, refl, ◌∙◌, arith}
 use Rattle.std.proofs.lemmas.List.{with_items_is}
 use Rattle.std.proofs.lemmas.Slice.{pushed}
-use Rattle.text.proofs.Spelling.{written_more, written_all, falls}
+use Rattle.text.proofs.Spelling.{written_more, written_all}
 use Rattle.text.proofs.digits.write_digits.Goals as goal
 use Rattle.text.proofs.digits.write_digits.Goals.{then-rest-gt0, else-rest-gt0+then-missing-gt0}
 
 some : (c : goal.After-saturating_sub-missing) → 0 < c.loop-rest.rest + c.loop-rest.missing
 some c = elim c.if-rest-gt0.branch [ then-rest-gt0 w ↦ omega arith | else-rest-gt0+then-missing-gt0 w ↦ omega arith ]
 
-pub loop-rest-smaller : goal.loop-rest-smaller
-loop-rest-smaller c = rw (c.saturating_sub-missing.ensures, c.from-rest.ensures) (falls c.args.base c.loop-rest.missing c.loop-rest.rest c.requires.0 (some c))
-
 pub loop-rest-preserved : goal.loop-rest-preserved
 loop-rest-preserved c =
     let digit = rw c.from.ensures at c.lower_digit.ensures in
     let more = rw digit at (pushed (c.lower_digit.result ∷ []) refl c.in_ok-push.was c.push.ensures.items) in
     rw (c.saturating_sub-missing.ensures, c.from-rest.ensures) (written_more c.requires.0 (some c) more c.loop-rest.invariant)
-
-pub reverse_from-requires : goal.reverse_from-requires
-reverse_from-requires c =
-    let start = c.len-start.ensures in
-    let long = ap length c.loop-rest.invariant.is ∙ length-append (vec_items c.args.out.now) c.loop-rest.invariant.low in
-    omega (arith, ap length c.as_mut_slice.ensures.value, c.args.out.now.ok.0, long)
 
 pub returns : goal.returns
 returns c =

@@ -1,18 +1,11 @@
-use Rattle.std.proofs.Common.{[], ◌∷◌, vec_items, refl}
+use Rattle.std.proofs.Common.{vec_items, refl}
 use Rattle.std.proofs.lemmas.Slice.{pushed}
 use Rattle.text.specs.Lines.{words_of}
-use Rattle.text.proofs.Cutting.{spaced_none, spaced_more, spaced_all}
+use Rattle.text.proofs.Cutting.{spaced_none, spaced_all}
 use Rattle.text.proofs.words.write_words.Goals as goal
 
 pub returns-in_default : goal.returns-in_default
 returns-in_default c = spaced_none (vec_items c.args.out.now) (words_of c.args.line.now) c.in_default.ensures.words
-
-pub loop-word-preserved : goal.loop-word-preserved
-loop-word-preserved c =
-    spaced_more _ _ _ _ _ (words_of c.loop-word.rest.now) (words_of c.in-Some-next_word.after.now) c.in-Some-next_word.ensures.words
-    (pushed (32 ∷ []) refl c.in_ok-push.was c.push.ensures.items)
-    (pushed c.in-Some-next_word.word.now refl c.in_ok-extend_from_slice-2.was c.extend_from_slice-in-Some-next_word.ensures.items)
-    c.loop-word.invariant
 
 pub returns : goal.returns
 returns c =
