@@ -18,14 +18,10 @@ fn find_in(rows: &[TableEntry], number: u16) -> Option<TableEntry>
     ensures inside { IfSome result Inside }
     ensures named { IfSome result (λ t. t.number ≡ number) }
 {
-    for row in rows {
-        if row.number == number {
-            return Some(*row);
-        }
-    }
-    None
+    rows.iter().find(|row| row.number == number).copied()
 }
 
+#[tactic(auto, unfolding(crate::specs::Tables::listed))]
 fn find_listed(number: u16) -> Option<TableEntry>
     ensures entry { result ≡ listed number }
     ensures inside { IfSome result Inside }
@@ -62,8 +58,7 @@ fn find_numbered(number: u16) -> Option<TableEntry>
     if number < TWIN_NUMBER {
         return find_listed(number);
     }
-    let entry = find_listed(number - TWIN_NUMBER)?;
-    twin(number, entry)
+    twin(number, find_listed(number - TWIN_NUMBER)?)
 }
 
 // The listed tables, with what stands for all of them.
@@ -80,8 +75,5 @@ pub fn find(number: u16) -> Result<TableEntry, ServiceFault>
     ensures inside { IfOk result Inside }
     ensures named { IfOk result (λ t. t.number ≡ number) }
 {
-    match find_numbered(number) {
-        Some(entry) => Ok(entry),
-        None => Err(ServiceFault::UnknownTable(number)),
-    }
+    find_numbered(number).ok_or(ServiceFault::UnknownTable(number))
 }
