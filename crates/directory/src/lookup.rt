@@ -12,22 +12,12 @@ const TWIN_NUMBER: u16 = 4096;
 
 const TWIN_LENGTH: u16 = 6;
 
-fn find_in(rows: &[TableEntry], number: u16) -> Option<TableEntry>
-    requires { AllByRecursion Inside rows.now }
-    ensures entry { result ≡ lookup rows.now number }
-    ensures inside { IfSome result Inside }
-    ensures named { IfSome result (λ t. t.number ≡ number) }
-{
-    rows.iter().find(|row| row.number == number).copied()
-}
-
-#[tactic(auto, unfolding(crate::specs::Tables::listed))]
 fn find_listed(number: u16) -> Option<TableEntry>
     ensures entry { result ≡ listed number }
     ensures inside { IfSome result Inside }
     ensures named { IfSome result (λ t. t.number ≡ number) }
 {
-    find_in(&tables(), number)
+    tables().iter().find(|row| row.number == number).copied()
 }
 
 // The pending twin of a table under its own number; only a staged table has one.
