@@ -3,3 +3,4 @@ pub mod Seals
 pub mod Wipes
 pub mod Sends
 pub mod Receives
+pub mod ReadsRight
