@@ -1,7 +1,7 @@
 -- What the code writes of each piece.
-use Rattle.std.proofs.Common.{◌≡◌, ℕ, ◌+◌, ◌*◌, ◌<◌, ◌≤◌, Bool, false, cond, ◌&&◌, ◌||◌, List, [], ◌∷◌, ◌++◌, length, get_or, drop, replicate, sym, refl, ap, ◌∙◌, arith}
+use Rattle.std.proofs.Common.{◌≡◌, ℕ, ◌+◌, ◌*◌, ◌<◌, ◌≤◌, Bool, false, cond, ◌&&◌, ◌||◌, List, [], ◌∷◌, ◌++◌, length, get_or, take, drop, replicate, sym, refl, ap, ◌∙◌, arith}
 use Rattle.std.specs.List.{flat_map}
-use Rattle.std.proofs.lemmas.List.{length-append, append_assoc, append-nil, drop_all, at_drop_more}
+use Rattle.std.proofs.lemmas.List.{length-append, append_assoc, append-nil, drop_all, at_drop_more, take_more, flat_map_more}
 use Rattle.std.proofs.lemmas.Bool.{eq-eqb, ne_eqb}
 use Rattle.fields.specs.Words.{le_bytes}
 use Rattle.fields.specs.Patches.{patch}
@@ -119,6 +119,15 @@ length_activation_bytes a = refl
 pub length_register_bytes : (r : Registers) → length (register_bytes r) ≡ 20
 unfolding five_words
 length_register_bytes r = refl
+
+-- pieces of one length, one behind another: one more
+pub flat_map_next : {X : Type 0} (f : X → List ℕ) (xs : List X) (i : ℕ) (x : X) → i < length xs → x ≡ get_or xs i x → flat_map f (take (i + 1) xs) ≡ flat_map f (take i xs) ++ f x
+flat_map_next f xs i x h is = ap (flat_map f) (take_more xs i x h ∙ ap (λ y. take i xs ++ y ∷ []) (sym is)) ∙ sym (flat_map_more f [] (take i xs) x)
+
+pub put_next : {X : Type 0} (f : X → List ℕ) (n at i : ℕ) (xs : List X) (x : X) (old : List ℕ) → i < length xs → x ≡ get_or xs i x → length (flat_map f (take i xs)) ≡ i * n → length (f x) ≡ n → at + i * n + n ≤ length old →
+    patch (at + i * n) (f x) (patch at (flat_map f (take i xs)) old) ≡ patch at (flat_map f (take (i + 1) xs)) old
+put_next f n at i xs x old h is long each fits =
+    patch_more at (i * n) (flat_map f (take i xs)) (f x) old (omega arith) long ∙ ap (λ l. patch at l old) (sym (flat_map_next f xs i x h is))
 
 -- three of a kind
 pub joined_three : {X : Type 0} (f : X → List ℕ) (xs : List X) (d : X) → length xs ≡ 3 → flat_map f xs ≡ f (get_or xs 0 d) ++ (f (get_or xs 1 d) ++ (f (get_or xs 2 d) ++ []))

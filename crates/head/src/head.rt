@@ -5,7 +5,7 @@ ghost use Rattle.head.specs.Heads.{decode_head, encode_head};
 ghost use Rattle.head.specs.Order.{in_order};
 ghost use Rattle.head.specs.Laws.{Laws, Frames};
 
-use crate::codec::{activation_from, logs_from, registers_from, rows_from, status_from, write_as};
+use crate::codec::{piece_at, status_of, three_from, write_as};
 use crate::layout;
 use crate::order::is_in_order_as;
 use logs::head::LogHead;
@@ -37,6 +37,7 @@ fn laws_stand()
 {}
 
 // What a content of block 0 says. Any content says something.
+#[tactic(auto, unfolding(crate::specs::Heads::rows_from, crate::specs::Heads::logs_from, crate::specs::Heads::activation_from, crate::specs::Heads::registers_from, crate::specs::Heads::status_from))]
 pub fn decode(content: &[u8]) -> Head
     requires { length content.now ≡ block_length }
     ensures equation { result ≡ decode_head content.now }
@@ -44,11 +45,11 @@ pub fn decode(content: &[u8]) -> Head
 {
     laws_stand();
     Head {
-        rows: rows_from(content, layout::ROWS),
-        logs: logs_from(content, layout::LOGS),
-        activation: activation_from(content, layout::ACTIVATION),
-        registers: registers_from(content, layout::REGISTERS),
-        status: status_from(content, layout::STATUS),
+        rows: three_from(content, layout::ROWS),
+        logs: three_from(content, layout::LOGS),
+        activation: piece_at(content, layout::ACTIVATION),
+        registers: piece_at(content, layout::REGISTERS),
+        status: status_of(content[layout::STATUS]),
     }
 }
 
