@@ -30,20 +30,13 @@ pub struct Head {
     pub status: Status,
 }
 
-// Does nothing: its contract has the laws of the whole block.
-fn laws_stand()
-    ensures laws { Laws }
-    ensures frames { Frames }
-{}
-
 // What a content of block 0 says. Any content says something.
-#[tactic(auto, unfolding(crate::specs::Heads::rows_from, crate::specs::Heads::logs_from, crate::specs::Heads::activation_from, crate::specs::Heads::registers_from, crate::specs::Heads::status_from))]
+#[tactic(auto, using(crate::proofs::HeadLaws::laws), unfolding(crate::specs::Heads::rows_from, crate::specs::Heads::logs_from, crate::specs::Heads::activation_from, crate::specs::Heads::registers_from, crate::specs::Heads::status_from))]
 pub fn decode(content: &[u8]) -> Head
     requires { length content.now ≡ block_length }
     ensures equation { result ≡ decode_head content.now }
     ensures laws { Laws }
 {
-    laws_stand();
     Head {
         rows: three_from(content, layout::ROWS),
         logs: three_from(content, layout::LOGS),
@@ -54,13 +47,13 @@ pub fn decode(content: &[u8]) -> Head
 }
 
 // The content of block 0 that says so, in place of what was there.
+#[tactic(auto, using(crate::proofs::HeadLaws::laws, crate::proofs::Frames::frames))]
 pub fn encode(head: &Head, content: &mut [u8])
     requires { length content.old ≡ block_length }
     ensures equation { content.new ≡ encode_head head.now }
     ensures laws { Laws }
     ensures frames { Frames }
 {
-    laws_stand();
     write_as(layout::NUMBER, head, content);
 }
 
