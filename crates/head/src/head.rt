@@ -14,6 +14,7 @@ use records::registers::Registers;
 use records::status::Status;
 
 // The last activation of a staged table: whether there was one, and its second.
+// No Option: block 0 may keep a second beside a cleared flag, and is written back byte for byte.
 #[derive(Clone, Copy)]
 pub struct Activation {
     pub happened: bool,
