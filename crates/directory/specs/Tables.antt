@@ -1,5 +1,6 @@
 -- The directory, and the table that a number names.
 use Rattle.std.specs.Prelude.{ℕ, ◌+◌, ◌-◌, ◌≤◌, cond, List, [], ◌∷◌, Some, None, Ok, Err, Option, Result, ◌==◌, nat_lt}
+use Rattle.std.specs.List.{find}
 use Rattle.numbers.specs.declared.log.LogName.TheVariants.{History, SelfReads, LoadProfile}
 use Rattle.refusals.specs.declared.fault.ServiceFault.{ServiceFault}
 use Rattle.refusals.specs.declared.fault.ServiceFault.TheVariants.{UnknownTable}
@@ -50,8 +51,7 @@ abbrev pub Inside : TableEntry → Type 0
 Inside t = t.length ≤ room t.source
 
 abbrev pub lookup : List TableEntry → ℕ → Option TableEntry
-lookup [] n = None
-lookup (t ∷ ts) n = cond (t.number == n) (Some t) (lookup ts n)
+lookup ts n = find (λ t. t.number == n) ts
 
 -- A staged table has a pending twin under a number of its own, six bytes longer.
 abbrev pub twin_from : ℕ → ℕ → Option ℕ → Source → Option TableEntry

@@ -12,26 +12,12 @@ const TWIN_NUMBER: u16 = 4096;
 
 const TWIN_LENGTH: u16 = 6;
 
-fn find_in(rows: &[TableEntry], number: u16) -> Option<TableEntry>
-    requires { AllByRecursion Inside rows.now }
-    ensures entry { result ≡ lookup rows.now number }
-    ensures inside { IfSome result Inside }
-    ensures named { IfSome result (λ t. t.number ≡ number) }
-{
-    for row in rows {
-        if row.number == number {
-            return Some(*row);
-        }
-    }
-    None
-}
-
 fn find_listed(number: u16) -> Option<TableEntry>
     ensures entry { result ≡ listed number }
     ensures inside { IfSome result Inside }
     ensures named { IfSome result (λ t. t.number ≡ number) }
 {
-    find_in(&tables(), number)
+    tables().iter().find(|row| row.number == number).copied()
 }
 
 // The pending twin of a table under its own number; only a staged table has one.
@@ -62,8 +48,7 @@ fn find_numbered(number: u16) -> Option<TableEntry>
     if number < TWIN_NUMBER {
         return find_listed(number);
     }
-    let entry = find_listed(number - TWIN_NUMBER)?;
-    twin(number, entry)
+    twin(number, find_listed(number - TWIN_NUMBER)?)
 }
 
 // The listed tables, with what stands for all of them.
@@ -80,8 +65,5 @@ pub fn find(number: u16) -> Result<TableEntry, ServiceFault>
     ensures inside { IfOk result Inside }
     ensures named { IfOk result (λ t. t.number ≡ number) }
 {
-    match find_numbered(number) {
-        Some(entry) => Ok(entry),
-        None => Err(ServiceFault::UnknownTable(number)),
-    }
+    find_numbered(number).ok_or(ServiceFault::UnknownTable(number))
 }

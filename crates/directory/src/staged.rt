@@ -1,4 +1,5 @@
 // Where the tables that can be staged lie: the content in force, and the one that waits.
+// One match each: a struct of the three numbers would only add their names to every call.
 ghost use Rattle.std.specs.Prelude.{◌≡◌};
 ghost use Rattle.directory.specs.Geometry.{staged_length, current_block, pending_block};
 

@@ -34,10 +34,11 @@ impl TableEntry {
             Source::Initiate => LEAST_INITIATE,
             _ => self.length,
         };
-        if count < least as usize || count > self.length as usize {
-            return Err(ServiceFault::BadPart);
+        if (usize::from(least)..=usize::from(self.length)).contains(&count) {
+            Ok(())
+        } else {
+            Err(ServiceFault::BadPart)
         }
-        Ok(())
     }
 }
 

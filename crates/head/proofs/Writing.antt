@@ -1,8 +1,7 @@
 -- What the code writes of each piece.
-use Rattle.std.proofs.Common.{◌≡◌, ℕ, ◌+◌, ◌*◌, ◌<◌, ◌≤◌, Bool, false, cond, ◌&&◌, ◌||◌, List, [], ◌∷◌, ◌++◌, length, get_or, drop, replicate, sym, refl, ap, ◌∙◌, arith}
+use Rattle.std.proofs.Common.{◌≡◌, ℕ, ◌+◌, ◌*◌, ◌<◌, ◌≤◌, Bool, cond, ◌&&◌, List, [], ◌∷◌, ◌++◌, length, get_or, take, replicate, sym, refl, ap, ◌∙◌, arith}
 use Rattle.std.specs.List.{flat_map}
-use Rattle.std.proofs.lemmas.List.{length-append, append_assoc, append-nil, drop_all, at_drop_more}
-use Rattle.std.proofs.lemmas.Bool.{eq-eqb, ne_eqb}
+use Rattle.std.proofs.lemmas.List.{length-append, append_assoc, append-nil, drop_all, take_more, flat_map_more}
 use Rattle.fields.specs.Words.{le_bytes}
 use Rattle.fields.specs.Patches.{patch}
 use Rattle.fields.proofs.Places.{patch_more}
@@ -16,7 +15,6 @@ use Rattle.pending.specs.Triggers.{second_of_due, plan_bytes}
 use Rattle.head.specs.declared.head.Activation.{Activation}
 use Rattle.logs.specs.declared.head.LogHead.{LogHead}
 use Rattle.records.specs.declared.registers.Registers.{Registers}
-use Rattle.head.specs.Order.{all_zero}
 use Rattle.records.specs.Layouts.{register_bytes, five_words}
 use Rattle.head.specs.Pieces.{row_bytes, log_bytes, activation_bytes}
 
@@ -47,15 +45,6 @@ pub activation_written : (a : Activation) (h : ℕ) (four : List ℕ) → h ≡ 
 unfolding activation_bytes
 activation_written a h four e f = ap (λ n. activation_list n four) e ∙ ap (λ l. activation_list (cond a.happened 1 0) l) f
 
--- three pieces of one length, one behind another
-pub three_written : (at n : ℕ) (x y z old : List ℕ) → length x ≡ n → length y ≡ n → length z ≡ n → at + n + n + n ≤ length old → patch (at + n + n) z (patch (at + n) y (patch at x old)) ≡ patch at (x ++ (y ++ (z ++ []))) old
-three_written at n x y z old p q r fits =
-    let two : patch (at + n) y (patch at x old) ≡ patch at (x ++ y) old = patch_more at n x y old (omega arith) p in
-    let place : at + n + n ≡ at + (n + n) = omega arith in
-    let long : length (x ++ y) ≡ n + n = rw length-append (omega arith) in
-    let whole : patch (at + (n + n)) z (patch at (x ++ y) old) ≡ patch at ((x ++ y) ++ z) old = patch_more at (n + n) (x ++ y) z old (omega arith) long in
-    rw (two, place, whole, append-nil, append_assoc)
-
 -- the seven pieces of a whole block
 whole_patch : (new old : List ℕ) → length new ≡ length old → patch 0 new old ≡ new
 unfolding patch
@@ -80,17 +69,7 @@ block_written a r l t g s z old la lr ll lt lg ls lz lo =
 pub three_same : {A : Type 0} {x y z a b c : A} → x ≡ a → y ≡ b → z ≡ c → ◌≡◌ {A = List A} (x ∷ y ∷ z ∷ []) (a ∷ b ∷ c ∷ [])
 three_same p q r = cc
 
--- a search for a byte that is not zero
-pub zero_front : (bs : List ℕ) (i : ℕ) → i < length bs → get_or bs i 0 ≡ 0 → all_zero (drop i bs) ≡ all_zero bs → all_zero (drop (i + 1) bs) ≡ all_zero bs
-zero_front bs i h z inv = sym (ap (λ t. t && all_zero (drop (i + 1) bs)) (eq-eqb (get_or bs i 0) 0 z)) ∙ sym (at_drop_more all_zero bs i 0 h) ∙ inv
-
-pub other_front : (bs : List ℕ) (i : ℕ) → i < length bs → (get_or bs i 0 ≡ 0 → ⊥) → all_zero (drop i bs) ≡ all_zero bs → false ≡ all_zero bs
-other_front bs i h n inv = sym (ap (λ t. t && all_zero (drop (i + 1) bs)) (ne_eqb (get_or bs i 0) 0 n)) ∙ sym (at_drop_more all_zero bs i 0 h) ∙ inv
-
 -- tests joined
-pub either_same : {x y a b : Bool} → x ≡ a → y ≡ b → (x || y) ≡ (a || b)
-either_same p q = cc
-
 pub all_same : {x y z a b c : Bool} → x ≡ a → y ≡ b → z ≡ c → (x && (y && z)) ≡ (a && (b && c))
 all_same p q r = cc
 
@@ -120,26 +99,20 @@ pub length_register_bytes : (r : Registers) → length (register_bytes r) ≡ 20
 unfolding five_words
 length_register_bytes r = refl
 
--- three of a kind
-pub joined_three : {X : Type 0} (f : X → List ℕ) (xs : List X) (d : X) → length xs ≡ 3 → flat_map f xs ≡ f (get_or xs 0 d) ++ (f (get_or xs 1 d) ++ (f (get_or xs 2 d) ++ []))
-joined_three f [] d h = absurd (omega arith)
-joined_three f (x ∷ []) d h = absurd (omega arith)
-joined_three f (x ∷ (y ∷ [])) d h = absurd (omega arith)
-joined_three f (x ∷ (y ∷ (z ∷ []))) d h = refl
-joined_three f (x ∷ (y ∷ (z ∷ (w ∷ ws)))) d h = absurd (omega arith)
+-- pieces of one length, one behind another: one more
+pub flat_map_next : {X : Type 0} (f : X → List ℕ) (xs : List X) (i : ℕ) (x : X) → i < length xs → x ≡ get_or xs i x → flat_map f (take (i + 1) xs) ≡ flat_map f (take i xs) ++ f x
+flat_map_next f xs i x h is = ap (flat_map f) (take_more xs i x h ∙ ap (λ y. take i xs ++ y ∷ []) (sym is)) ∙ sym (flat_map_more f [] (take i xs) x)
 
+pub put_next : {X : Type 0} (f : X → List ℕ) (n at i : ℕ) (xs : List X) (x : X) (old : List ℕ) → i < length xs → x ≡ get_or xs i x → length (flat_map f (take i xs)) ≡ i * n → length (f x) ≡ n → at + i * n + n ≤ length old →
+    patch (at + i * n) (f x) (patch at (flat_map f (take i xs)) old) ≡ patch at (flat_map f (take (i + 1) xs)) old
+put_next f n at i xs x old h is long each fits =
+    patch_more at (i * n) (flat_map f (take i xs)) (f x) old (omega arith) long ∙ ap (λ l. patch at l old) (sym (flat_map_next f xs i x h is))
+
+-- how long all are
 pub length_joined : {X : Type 0} (f : X → List ℕ) (n : ℕ) (xs : List X) → ((x : X) → length (f x) ≡ n) → length (flat_map f xs) ≡ length xs * n
 length_joined f n [] each = omega arith
 length_joined f n (x ∷ xs) each =
     length-append (f x) (flat_map f xs) ∙ omega (arith, each x, length_joined f n xs each)
-
-pub three_put : {X : Type 0} (f : X → List ℕ) (n at : ℕ) (xs : List X) (d : X) (old a b c m₁ m₂ m₃ : List ℕ) →
-    ((x : X) → length (f x) ≡ n) → length xs ≡ 3 → at + n + n + n ≤ length old →
-    a ≡ f (get_or xs 0 d) → b ≡ f (get_or xs 1 d) → c ≡ f (get_or xs 2 d) →
-    m₁ ≡ patch at a old → m₂ ≡ patch (at + n) b m₁ → m₃ ≡ patch (at + n + n) c m₂ → m₃ ≡ patch at (flat_map f xs) old
-three_put f n at xs d old a b c m₁ m₂ m₃ each three fits ea eb ec e₁ e₂ e₃ =
-    let chain : m₃ ≡ patch (at + n + n) (f (get_or xs 2 d)) (patch (at + n) (f (get_or xs 1 d)) (patch at (f (get_or xs 0 d)) old)) = cc in
-    chain ∙ three_written at n _ _ _ old (each _) (each _) (each _) fits ∙ ap (λ l. patch at l old) (sym (joined_three f xs d three))
 
 pub block_put : (a r l t t' g g' z old m₁ m₂ m₃ m₄ m₅ m₆ m₇ : List ℕ) (s s' : ℕ) →
     m₁ ≡ patch 0 a old → m₂ ≡ patch 2 r m₁ → m₃ ≡ patch 38 l m₂ → m₄ ≡ patch 62 t' m₃ → m₅ ≡ patch 67 g' m₄ → m₆ ≡ patch 87 (s' ∷ []) m₅ → m₇ ≡ patch 88 z m₆ →

@@ -13,12 +13,16 @@ use Rattle.records.specs.Statuses.{status_byte}
 use Rattle.records.specs.Layouts.{register_bytes, registers_at}
 use Rattle.head.specs.Pieces.{row_bytes, row_of, log_bytes, log_of, activation_bytes, activation_of, status_of}
 
+-- Three pieces of one length from a place on.
+abbrev pub three_from : {P : Type 0} → (List ℕ → P) → ℕ → ℕ → List ℕ → List P
+three_from said n at c = said (part n at c) ∷ said (part n (at + n) c) ∷ said (part n (at + n + n) c) ∷ []
+
 -- What stands from a place on.
 unfoldable pub rows_from : ℕ → List ℕ → List Row
-rows_from at c = row_of (part row_length at c) ∷ row_of (part row_length (at + row_length) c) ∷ row_of (part row_length (at + row_length + row_length) c) ∷ []
+rows_from at c = three_from row_of row_length at c
 
 unfoldable pub logs_from : ℕ → List ℕ → List LogHead
-logs_from at c = log_of (part log_length at c) ∷ log_of (part log_length (at + log_length) c) ∷ log_of (part log_length (at + log_length + log_length) c) ∷ []
+logs_from at c = three_from log_of log_length at c
 
 unfoldable pub activation_from : ℕ → List ℕ → Activation
 activation_from at c = activation_of (part activation_length at c)

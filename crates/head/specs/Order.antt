@@ -1,5 +1,6 @@
 -- When block 0 is in order.
 use Rattle.std.specs.Prelude.{◌≡◌, ℕ, ◌+◌, ◌<◌, Bool, true, false, ◌&&◌, ◌||◌, List, [], ◌∷◌, length, Some, None, Option, ◌==◌, nat_le, nat_lt, slice_index}
+use Rattle.std.specs.List.{list_all}
 use Rattle.fields.specs.Words.{part, word}
 use Rattle.calendar.specs.Calendar.{seconds_in_all}
 use Rattle.pending.specs.declared.plan.Plan.{Plan}
@@ -13,8 +14,7 @@ use Rattle.head.specs.Layout.{layout_number, row_count, row_length, log_length, 
 use Rattle.head.specs.Pieces.{plan_part, log_of}
 
 abbrev pub all_zero : List ℕ → Bool
-all_zero [] = true
-all_zero (b ∷ bs) = b == 0 && all_zero bs
+all_zero bs = list_all (λ b. b == 0) bs
 
 -- The second agrees with the trigger bytes, which are well formed.
 abbrev pub plan_agrees : Option Plan → ℕ → Bool

@@ -5,7 +5,7 @@ ghost use Rattle.head.specs.Heads.{decode_head, encode_head};
 ghost use Rattle.head.specs.Order.{in_order};
 ghost use Rattle.head.specs.Laws.{Laws, Frames};
 
-use crate::codec::{activation_from, logs_from, registers_from, rows_from, status_from, write_as};
+use crate::codec::{piece_at, status_of, three_from, write_as};
 use crate::layout;
 use crate::order::is_in_order_as;
 use logs::head::LogHead;
@@ -14,6 +14,7 @@ use records::registers::Registers;
 use records::status::Status;
 
 // The last activation of a staged table: whether there was one, and its second.
+// No Option: block 0 may keep a second beside a cleared flag, and is written back byte for byte.
 #[derive(Clone, Copy)]
 pub struct Activation {
     pub happened: bool,
@@ -30,36 +31,30 @@ pub struct Head {
     pub status: Status,
 }
 
-// Does nothing: its contract has the laws of the whole block.
-fn laws_stand()
-    ensures laws { Laws }
-    ensures frames { Frames }
-{}
-
 // What a content of block 0 says. Any content says something.
+#[tactic(auto, using(crate::proofs::HeadLaws::laws), unfolding(crate::specs::Heads::rows_from, crate::specs::Heads::logs_from, crate::specs::Heads::activation_from, crate::specs::Heads::registers_from, crate::specs::Heads::status_from))]
 pub fn decode(content: &[u8]) -> Head
     requires { length content.now ≡ block_length }
     ensures equation { result ≡ decode_head content.now }
     ensures laws { Laws }
 {
-    laws_stand();
     Head {
-        rows: rows_from(content, layout::ROWS),
-        logs: logs_from(content, layout::LOGS),
-        activation: activation_from(content, layout::ACTIVATION),
-        registers: registers_from(content, layout::REGISTERS),
-        status: status_from(content, layout::STATUS),
+        rows: three_from(content, layout::ROWS),
+        logs: three_from(content, layout::LOGS),
+        activation: piece_at(content, layout::ACTIVATION),
+        registers: piece_at(content, layout::REGISTERS),
+        status: status_of(content[layout::STATUS]),
     }
 }
 
 // The content of block 0 that says so, in place of what was there.
+#[tactic(auto, using(crate::proofs::HeadLaws::laws, crate::proofs::Frames::frames))]
 pub fn encode(head: &Head, content: &mut [u8])
     requires { length content.old ≡ block_length }
     ensures equation { content.new ≡ encode_head head.now }
     ensures laws { Laws }
     ensures frames { Frames }
 {
-    laws_stand();
     write_as(layout::NUMBER, head, content);
 }
 

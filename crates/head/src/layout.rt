@@ -1,6 +1,4 @@
 // Where the pieces of block 0 stand.
-use logs::log::{HISTORY_LOG, LOAD_PROFILE_LOG, SELF_READ_LOG};
-
 pub const BLOCK_LENGTH: usize = 510;
 
 // The layout number, at the front.
@@ -13,13 +11,6 @@ pub const ROW_LENGTH: usize = 12;
 pub const LOG_COUNT: usize = 3;
 
 pub const LOG_LENGTH: usize = 8;
-
-// How many records a log can hold: the history, the self-reads, the load profile.
-pub const LOG_SIZES: [u16; LOG_COUNT] = [
-    HISTORY_LOG.size,
-    SELF_READ_LOG.size,
-    LOAD_PROFILE_LOG.size,
-];
 
 pub const ACTIVATION_LENGTH: usize = 5;
 

@@ -1,8 +1,9 @@
 // Answers over the front of a buffer, and a scratch that is wiped.
-ghost use Rattle.std.specs.Prelude.{◌≡◌, ◌+◌, ◌<◌, ◌≤◌, true, [], ◌∷◌, ◌++◌, length, OnOk};
+ghost use Rattle.std.specs.Prelude.{◌≡◌, ◌+◌, ◌<◌, ◌≤◌, true, [], ◌∷◌, ◌++◌, length, OnOk, cond, nat_lt, Ok, Err};
 ghost use Rattle.fields.specs.Words.{part, be_bytes};
 ghost use Rattle.fields.specs.Patches.{overlay};
 ghost use Rattle.numbers.specs.Names.{code_number};
+ghost use Rattle.refusals.specs.declared.fault.ServiceFault.TheVariants.{ShortBuffer};
 ghost use Rattle.request.specs.Asks.{whole};
 ghost use Rattle.request.specs.Answers.{check_byte, answer_bytes, refused, zeroed, wiped, buffer_verdict};
 
@@ -27,11 +28,10 @@ fn put_front(bytes: &mut [u8], new: &[u8])
 }
 
 fn zero_front(bytes: &mut [u8], count: usize)
-    requires few { count ≤ 510 }
-    requires room { count ≤ length bytes.old }
+    requires { count ≤ length bytes.old }
     ensures { bytes.new ≡ zeroed count bytes.old }
 {
-    put_front(bytes, &[0u8; SCRATCH][0..count]);
+    bytes[0..count].fill(0);
 }
 
 // The check of the bytes that stand in an answer.
@@ -89,16 +89,22 @@ pub fn wipe(scratch: &mut [u8])
     zero_front(scratch, SCRATCH);
 }
 
+fn check_room(length: usize, least: usize) -> Result<(), ServiceFault>
+    requires { least ≤ 1028 }
+    ensures verdict { result ≡ cond (nat_lt length least) (Err (ShortBuffer length)) (Ok tt) }
+    ensures room { OnOk result (least ≤ length) }
+{
+    if length < least {
+        return Err(ServiceFault::ShortBuffer(length as u32));
+    }
+    Ok(())
+}
+
 // Whether the buffers are long enough.
 pub fn check_buffers(answer: usize, scratch: usize) -> Result<(), ServiceFault>
     ensures answer { result ≡ buffer_verdict answer scratch }
     ensures room { OnOk result ((1028 ≤ answer) × (510 ≤ scratch)) }
 {
-    if answer < ANSWER {
-        return Err(ServiceFault::ShortBuffer(answer as u32));
-    }
-    if scratch < SCRATCH {
-        return Err(ServiceFault::ShortBuffer(scratch as u32));
-    }
-    Ok(())
+    check_room(answer, ANSWER)?;
+    check_room(scratch, SCRATCH)
 }

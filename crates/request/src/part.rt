@@ -26,10 +26,7 @@ impl Part {
         ensures answer { result ≡ part_verdict from count length }
         ensures inside { IfOk result (λ p. (0 < p.count) × (p.from + p.count ≤ length)) }
     {
-        if count == 0 {
-            return Err(ServiceFault::BadPart);
-        }
-        if count > length || from > u32::from(length - count) {
+        if count == 0 || count > length || from > u32::from(length - count) {
             return Err(ServiceFault::BadPart);
         }
         Ok(Part { from, count })

@@ -1,11 +1,10 @@
-use Rattle.std.proofs.Common.{sum, ap, arith, take_all}
-use Rattle.std.proofs.lemmas.List.Sums.{sum_by_more}
+use Rattle.std.proofs.Common.{◌≡◌, ◌+◌, ◌%◌, sum, subst, refl, arith, rules}
+use Rattle.std.proofs.lemmas.List.Sums.{sum_by_push}
+use Rattle.std.proofs.lemmas.Fn.{fold_over, slice_gives, fronts}
 use Rattle.request.proofs.sums.byte_sum.Goals as goal
-
-pub loop-b-preserved : goal.loop-b-preserved
-loop-b-preserved c = omega (arith, sum_by_more (λ x. x) c.args.bytes.now c.loop-b.b-index 0 c.loop-b-test.true)
 
 pub returns : goal.returns
 returns c =
-    let whole = ap sum (take_all c.loop-b.b-index c.args.bytes.now c.loop-b-test.false) in
-    omega (arith, whole)
+    subst (λ l. c.fold.result ≡ sum l % 256) c.iter.ensures.rest
+    (fold_over fronts (λ y. y.now) _ (λ ys n. n ≡ sum ys % 256) _ (λ ys a x b f' j k. let more = sum_by_push (λ v. v) ys x.now in let says : b ≡ (a + x.now) % 256 = search rules in (omega (arith, more, says, j), search rules))
+    _ _ _ _ (slice_gives c.iter.result) refl c.fold.ensures.ran)
