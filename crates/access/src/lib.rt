@@ -53,3 +53,44 @@ pub fn store<M: BlockMemory>(memory: &mut M, block: u32, content: &[u8; CONTENT]
 {
     let _ = memory.write(block, content);
 }
+
+// A memory that was found ready, and is from then on.
+pub struct ReadyMemory<M: BlockMemory> {
+    pub memory: M,
+    pub ghost ready: { Ready (M.BlockMemory.blocks memory) },
+}
+
+impl<M: BlockMemory> ReadyMemory<M> {
+    // What a check found ready.
+    pub fn new(found: M) -> ReadyMemory<M>
+        requires { Ready (M.BlockMemory.blocks found) }
+        ensures { result.memory ≡ found }
+    {
+        ReadyMemory { memory: found }
+    }
+
+    // The memory itself, given back whole.
+    pub fn into_inner(self) -> M
+        ensures memory { result ≡ self.memory }
+        ensures ready { Ready (M.BlockMemory.blocks result) }
+    {
+        let ReadyMemory { memory } = self;
+        memory
+    }
+
+    // The content of a block, into a buffer.
+    pub fn load(&self, block: u32, content: &mut [u8; CONTENT])
+        requires { block < needed }
+        ensures content { content.new ≡ content_of (M.BlockMemory.blocks self.now.memory) block }
+    {
+        load(&self.memory, block, content);
+    }
+
+    // A new content for a block, from a buffer.
+    pub fn store(&mut self, block: u32, content: &[u8; CONTENT])
+        requires { block < needed }
+        ensures { M.BlockMemory.blocks self.new.memory ≡ stored (M.BlockMemory.blocks self.old.memory) block content.now }
+    {
+        store(&mut self.memory, block, content);
+    }
+}

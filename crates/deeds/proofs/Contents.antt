@@ -1,6 +1,7 @@
 -- Tests of contents, byte by byte, and a table as a write leaves it.
 use Rattle.std.proofs.Common.{◌≡◌, ℕ, ◌+◌, ◌-◌, ◌<◌, ◌≤◌, Bool, ◌&&◌, List, [], ◌∷◌, length, get_or, take, drop, Result, sym, refl, ap, ◌∙◌, arith, rules}
-use Rattle.std.proofs.lemmas.List.{places, same_lists, at_drop_more}
+use Rattle.std.specs.List.{list_all}
+use Rattle.std.proofs.lemmas.List.{places, same_lists}
 use Rattle.access.specs.Ready.{content_of}
 use Rattle.fields.specs.Words.{part}
 use Rattle.fields.specs.Patches.{patch}
@@ -15,17 +16,9 @@ use Rattle.model.specs.Tariffs.{is_tier, all_tiers}
 use Rattle.deeds.specs.declared.deed.Deed.{Deed}
 use Rattle.deeds.specs.Deeds.{deed_of}
 
-pub tier_front : (bs : List ℕ) (i : ℕ) (t : Bool) → i < length bs → t ≡ is_tier (get_or bs i 0) → all_tiers (drop i bs) ≡ all_tiers bs → (t && all_tiers (drop (i + 1) bs)) ≡ all_tiers bs
-tier_front bs i t h e inv = ap (λ b. b && all_tiers (drop (i + 1) bs)) e ∙ sym (at_drop_more all_tiers bs i 0 h) ∙ inv
-
-pub take_six : (bs : List ℕ) → 6 ≤ length bs → take 6 bs ≡ get_or bs 0 0 ∷ get_or bs 1 0 ∷ get_or bs 2 0 ∷ get_or bs 3 0 ∷ get_or bs 4 0 ∷ get_or bs 5 0 ∷ []
-take_six [] h = absurd (omega arith)
-take_six (a ∷ []) h = absurd (omega arith)
-take_six (a ∷ b ∷ []) h = absurd (omega arith)
-take_six (a ∷ b ∷ c ∷ []) h = absurd (omega arith)
-take_six (a ∷ b ∷ c ∷ d ∷ []) h = absurd (omega arith)
-take_six (a ∷ b ∷ c ∷ d ∷ e ∷ []) h = absurd (omega arith)
-take_six (a ∷ b ∷ c ∷ d ∷ e ∷ f ∷ bs) h = refl
+pub all_are_tiers : (bs : List ℕ) → list_all is_tier bs ≡ all_tiers bs
+all_are_tiers [] = refl
+all_are_tiers (b ∷ bs) = ap (λ rest. is_tier b && rest) (all_are_tiers bs)
 
 -- a write that lies in a table at the front of a block, in that table
 patched_front : (from n : ℕ) (new old : List ℕ) → from + length new ≤ n → n ≤ length old → part n 0 (patch from new old) ≡ patch from new (part n 0 old)

@@ -1,7 +1,6 @@
 // Contents against their rules.
 ghost use Rattle.std.specs.Prelude.{◌≡◌, ◌+◌, ◌≤◌, length, take, drop, is_some, if◌then◌else◌, Err};
 ghost use Rattle.refusals.specs.declared.fault.ServiceFault.TheVariants.{BadContent};
-ghost use Rattle.access.specs.Ready.{Ready};
 ghost use Rattle.fields.specs.Patches.{patch};
 ghost use Rattle.pending.specs.Triggers.{plan_of};
 ghost use Rattle.directory.specs.Geometry.{staged_length};
@@ -12,7 +11,7 @@ ghost use Rattle.deeds.specs.Deeds.{deed_of, Safe};
 
 use crate::deed::Deed;
 use crate::rules::is_right;
-use access::load;
+use access::ReadyMemory;
 use directory::entry::Source;
 use directory::staged::{current_block, staged_length};
 use fields::bytes::put_bytes;
@@ -22,14 +21,15 @@ use pending::table::PendingTable;
 use pending::trigger::Due;
 use refusals::fault::ServiceFault;
 
-fn rule(right: bool) -> Result<(), ServiceFault>
-    ensures { result ≡ ruled right }
+// Whether a whole content keeps the rules of its table.
+fn check_right(table: PendingTable, content: &[u8]) -> Result<(), ServiceFault>
+    requires { length content.now ≡ staged_length table }
+    ensures { result ≡ ruled (is_right table content.now) }
 {
-    if right {
-        Ok(())
-    } else {
-        Err(ServiceFault::BadContent)
+    if !is_right(table, content) {
+        return Err(ServiceFault::BadContent);
     }
+    Ok(())
 }
 
 // The plan of the six trigger bytes at the front of a staging.
@@ -38,10 +38,7 @@ fn plan_in(content: &[u8]) -> Option<Plan>
     requires { 6 ≤ length content.now }
     ensures { result ≡ plan_of (take 6 content.now) }
 {
-    Plan::try_from([
-        content[0], content[1], content[2], content[3], content[4], content[5],
-    ])
-    .ok()
+    Plan::try_from(*content.first_chunk()?).ok()
 }
 
 // The plan of a staging, and when it takes force if it is staged at this clock.
@@ -55,55 +52,38 @@ pub fn plan_due(content: &[u8], clock: u32) -> Option<(Plan, Due)>
 }
 
 // Whether the table as a write would leave it is right.
-fn is_right_after<M: BlockMemory>(
-    memory: &M,
-    table: PendingTable,
-    from: usize,
-    content: &[u8],
-    work: &mut [u8; CONTENT],
-) -> bool
-    requires ready { Ready (M.BlockMemory.blocks memory.now) }
-    requires inside { from + length content.now ≤ staged_length table }
-    ensures { result ≡ is_right table (patch from content.now (current_table table (M.BlockMemory.blocks memory.now))) }
-{
-    load(memory, current_block(table), work);
-    put_bytes(work, from, content);
-    is_right(table, &work[0..staged_length(table) as usize])
-}
-
 fn check_write<M: BlockMemory>(
-    memory: &M,
+    memory: &ReadyMemory<M>,
     table: PendingTable,
     from: usize,
     content: &[u8],
     work: &mut [u8; CONTENT],
 ) -> Result<(), ServiceFault>
-    requires ready { Ready (M.BlockMemory.blocks memory.now) }
     requires inside { from + length content.now ≤ staged_length table }
-    ensures { result ≡ ruled (is_right table (patch from content.now (current_table table (M.BlockMemory.blocks memory.now)))) }
+    ensures { result ≡ ruled (is_right table (patch from content.now (current_table table (M.BlockMemory.blocks memory.now.memory)))) }
 {
-    rule(is_right_after(memory, table, from, content, work))
+    memory.load(current_block(table), work);
+    put_bytes(work, from, content);
+    check_right(table, &work[0..staged_length(table) as usize])
 }
 
 fn check_staging(table: PendingTable, content: &[u8], clock: u32) -> Result<(), ServiceFault>
     requires { length content.now ≡ staged_length table + 6 }
     ensures { result ≡ (if is_some (staged_due (plan_of (take 6 content.now)) clock) then ruled (is_right table (drop 6 content.now)) else Err BadContent) }
 {
-    match plan_due(content, clock) {
-        Some(_) => rule(is_right(table, &content[6..])),
-        None => Err(ServiceFault::BadContent),
-    }
+    plan_due(content, clock).ok_or(ServiceFault::BadContent)?;
+    check_right(table, &content[6..])
 }
 
+// The proof needs a file for what is staged, which a public function has not: so there are two.
 fn check_rules<M: BlockMemory>(
-    memory: &M,
+    memory: &ReadyMemory<M>,
     deed: &Deed,
     clock: u32,
     work: &mut [u8; CONTENT],
 ) -> Result<(), ServiceFault>
-    requires ready { Ready (M.BlockMemory.blocks memory.now) }
     requires safe { Safe (deed_of deed.now) }
-    ensures { result ≡ content_verdict (deed_of deed.now) clock (M.BlockMemory.blocks memory.now) }
+    ensures { result ≡ content_verdict (deed_of deed.now) clock (M.BlockMemory.blocks memory.now.memory) }
 {
     match *deed {
         Deed::Read { .. } => Ok(()),
@@ -126,14 +106,13 @@ fn check_rules<M: BlockMemory>(
 
 // Whether what is to be written or staged keeps the rules of its table. The work buffer is as long as a block.
 pub fn check_content<M: BlockMemory>(
-    memory: &M,
+    memory: &ReadyMemory<M>,
     deed: &Deed,
     clock: u32,
     work: &mut [u8; CONTENT],
 ) -> Result<(), ServiceFault>
-    requires ready { Ready (M.BlockMemory.blocks memory.now) }
     requires safe { Safe (deed_of deed.now) }
-    ensures { result ≡ content_verdict (deed_of deed.now) clock (M.BlockMemory.blocks memory.now) }
+    ensures { result ≡ content_verdict (deed_of deed.now) clock (M.BlockMemory.blocks memory.now.memory) }
 {
     check_rules(memory, deed, clock, work)
 }

@@ -3,7 +3,7 @@ ghost use Rattle.std.specs.Prelude.{◌≡◌, IfOk};
 ghost use Rattle.request.specs.Asks.{ask_of, service_of};
 ghost use Rattle.request.specs.Parts.{part_verdict};
 ghost use Rattle.directory.specs.Uses.{table_for};
-ghost use Rattle.model.specs.Requests.{keyed_read, keyed_write, key_verdict, answerable, write_all, fitted, decided};
+ghost use Rattle.model.specs.Requests.{key_verdict, answerable, write_all, fitted, decided};
 ghost use Rattle.deeds.specs.Deeds.{deed_of, decided_as, Usable, Safe};
 
 use crate::deed::Deed;
@@ -17,32 +17,15 @@ use request::request::{Request, parse};
 // The most bytes of a table that an answer has room for.
 const MOST_READ: u16 = 1024;
 
-fn check_read_key(key: Option<Key>) -> Result<(), ServiceFault>
-    ensures { result ≡ keyed_read key }
-{
-    match key {
-        Some(_) => Ok(()),
-        None => Err(ServiceFault::Clearance),
-    }
-}
-
-fn check_write_key(key: Option<Key>) -> Result<(), ServiceFault>
-    ensures { result ≡ keyed_write key }
-{
-    match key {
-        Some(Key::Master) => Ok(()),
-        _ => Err(ServiceFault::Clearance),
-    }
-}
-
 // A read needs a key, a write the master's.
 fn check_key(key: u8, request: &Request) -> Result<(), ServiceFault>
     ensures { result ≡ key_verdict key (ask_of request.now) }
 {
-    let key = Key::try_from(key).ok();
-    match request {
-        Request::FullRead { .. } | Request::PartialRead { .. } => check_read_key(key),
-        Request::FullWrite { .. } | Request::PartialWrite { .. } => check_write_key(key),
+    let key = Key::try_from(key).or(Err(ServiceFault::Clearance))?;
+    match (request, key) {
+        (Request::FullRead { .. } | Request::PartialRead { .. }, _) => Ok(()),
+        (_, Key::Master) => Ok(()),
+        (_, Key::Reader) => Err(ServiceFault::Clearance),
     }
 }
 

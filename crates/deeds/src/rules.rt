@@ -15,12 +15,7 @@ fn is_tier(byte: u8) -> bool
 fn are_tiers(bytes: &[u8]) -> bool
     ensures { result ≡ all_tiers bytes.now }
 {
-    for byte in bytes {
-        if !is_tier(*byte) {
-            return false;
-        }
-    }
-    true
+    bytes.iter().all(|byte| is_tier(*byte))
 }
 
 // No other bit of byte 0, a weekday, an hour, a minute, and a tier for each hour.

@@ -1,5 +1,5 @@
 -- What a step does hangs on the head and the blocks alone, not on the entries recorded before it.
-use Rattle.std.proofs.Common.{◌≡◌, ℕ, ◌%◌, Bool, true, false, cond, ◌||◌, eqb, List, [], ◌∷◌, ◌++◌, sym, refl, ap, ◌∙◌, append_assoc, append-nil}
+use Rattle.std.proofs.Common.{◌≡◌, ℕ, zero, suc, ◌+◌, ◌%◌, ◌<◌, Bool, true, false, cond, ◌||◌, eqb, List, [], ◌∷◌, ◌++◌, get_or, take, sym, refl, ap, subst, ◌∙◌, append_assoc, append-nil, arith}
 use Rattle.memory.specs.Blocks.{Block}
 use Rattle.records.specs.declared.event.Event.{Event}
 use Rattle.records.specs.declared.event.Event.TheVariants.{PowerUp, PendingActivated}
@@ -17,22 +17,22 @@ use Rattle.model.specs.Steps.{entered, noted, self_read_taken, interval_taken, r
 use Rattle.model.specs.Calls.{scheduled_read, interval_read, ticked, mark_started, power_up}
 use Rattle.model.specs.Tables.{current_table}
 use Rattle.model.specs.Tariffs.{is_scheduled}
-use Rattle.steps.specs.Work.{working, any_of, forced}
+use Rattle.steps.specs.Work.{State, working, going, after, any_of, forced}
 
 -- the same with entries recorded before
-abbrev pub after : List Recorded → Going → Going
-after es g = record { head = g.head; blocks = g.blocks; entries = es ++ g.entries }
+abbrev pub told : List Recorded → Going → Going
+told es g = record { head = g.head; blocks = g.blocks; entries = es ++ g.entries }
 
 abbrev pub Steady : (Going → Going) → Type 0
-Steady f = (es : List Recorded) (g : Going) → f (after es g) ≡ after es (f g)
+Steady f = (es : List Recorded) (g : Going) → f (told es g) ≡ told es (f g)
 
 pub both_steady : (f k : Going → Going) → Steady f → Steady k → Steady (λ g. k (f g))
 both_steady f k sf sk es g = ap k (sf es g) ∙ sk es (f g)
 
-pub if_steady : (test : Going → Bool) (f : Going → Going) → ((es : List Recorded) (g : Going) → test (after es g) ≡ test g) → Steady f → Steady (λ g. cond (test g) (f g) g)
+pub if_steady : (test : Going → Bool) (f : Going → Going) → ((es : List Recorded) (g : Going) → test (told es g) ≡ test g) → Steady f → Steady (λ g. cond (test g) (f g) g)
 if_steady test f same sf es g = go (test g) (same es g)
   where
-    go : (b : Bool) → test (after es g) ≡ b → cond (test (after es g)) (f (after es g)) (after es g) ≡ after es (cond b (f g) g)
+    go : (b : Bool) → test (told es g) ≡ b → cond (test (told es g)) (f (told es g)) (told es g) ≡ told es (cond b (f g) g)
     go true e = rw e (sf es g)
     go false e = rw e refl
 
@@ -88,51 +88,80 @@ scheduled_steady s = if_steady (λ g. is_scheduled (current_table Calendar g.blo
 pub interval_read_steady : (s : ℕ) → Steady (interval_read s)
 interval_read_steady s = if_steady (λ g. eqb (s % 900) 0) (interval_taken s) (λ es g. refl) (interval_steady s)
 
--- an empty row does nothing, and a waiting one takes force
-pub row_empty : (clock : ℕ) (t : PendingTable) (g : Going) → row_of t g.head ≡ Empty → activated clock t g ≡ g
-unfolding activated
-row_empty clock t g e = ap (λ row. took_force t clock row g) e
-
-pub row_waiting : (clock : ℕ) (t : PendingTable) (g : Going) (plan : Plan) (due : Due) → row_of t g.head ≡ Waiting plan due → activated clock t g ≡ forced t clock plan.self_read g
-unfolding activated
-row_waiting clock t g plan due e = ap (λ row. took_force t clock row g) e
-
--- what code holds at a step: the head, the blocks, and whether anything was recorded
-pub record At (h : Head) (bs : List Block) (some : Bool) (g : Going) : Type 0 where
-  pub head : h ≡ g.head
-  pub blocks : bs ≡ g.blocks
-  pub any : some ≡ any_of g.entries
-
 any_more : (xs ys : List Recorded) → (any_of xs || any_of ys) ≡ any_of (xs ++ ys)
 any_more [] ys = refl
 any_more (x ∷ xs) ys = refl
 
--- a step after others
-pub onward : (f : Going → Going) → Steady f → (g : Going) {h h' : Head} {bs bs' : List Block} {some some' : Bool} → At h bs some g → At h' bs' some' (f (working h bs)) → At h' bs' (some || some') (f g)
-onward f steady g {h} {h'} {bs} {bs'} before here =
-    let start : after g.entries (working h bs) ≡ g = rw (append-nil g.entries, before.head, before.blocks) refl in
-    let same : after g.entries (f (working h bs)) ≡ f g = sym (steady g.entries (working h bs)) ∙ ap f start in
-    record {
-      head = here.head ∙ ap (λ (x : Going). x.head) same;
-      blocks = here.blocks ∙ ap (λ (x : Going). x.blocks) same;
-      any = rw (before.any, here.any) (any_more g.entries (f (working h bs)).entries ∙ ap (λ (x : Going). any_of x.entries) same);
-    }
+-- what a step did to the state of code, and whether it recorded anything
+pub record Did (step : Going → Going) (s : State) (some : Bool) (s' : State) : Type 0 where
+  pub after : s' ≡ after step s
+  pub any : some ≡ any_of (step (going s)).entries
 
--- the three rows, one after another
-pub three_activated : (test : Row → Bool) (clock : ℕ) (h : Head) (bs : List Block) {h₁ h₂ h₃ : Head} {bs₁ bs₂ bs₃ : List Block} {some₁ some₂ some₃ : Bool} → At h₁ bs₁ some₁ (activated_if test clock Calendar (working h bs)) → At h₂ bs₂ some₂ (activated_if test clock Outputs (working h₁ bs₁)) → At h₃ bs₃ some₃ (activated_if test clock Override (working h₂ bs₂)) → At h₃ bs₃ ((some₁ || some₂) || some₃) (each_activated test clock all_tables (working h bs))
-three_activated test clock h bs one two three =
-    let a = activated_if test clock Calendar (working h bs) in
-    let b = activated_if test clock Outputs a in
-    onward (activated_if test clock Override) (activated_if_steady test clock Override) b (onward (activated_if test clock Outputs) (activated_if_steady test clock Outputs) a one two) three
+-- a step goes on from the head and the blocks alone
+going_on : (f k : Going → Going) → Steady k → (s : State) → k (f (going s)) ≡ told (f (going s)).entries (k (going (after f s)))
+going_on f k steady s =
+    let start : told (f (going s)).entries (going (after f s)) ≡ f (going s) = rw (append-nil (f (going s)).entries) refl in
+    sym (ap k start) ∙ steady (f (going s)).entries (going (after f s))
+
+-- one step after another
+pub after_both : (f k : Going → Going) → Steady k → (s : State) → after k (after f s) ≡ after (λ g. k (f g)) s
+after_both f k steady s = ap (λ (g : Going). record { clock = s.clock; head = g.head; blocks = g.blocks }) (sym (going_on f k steady s))
+
+pub did_both : (f k : Going → Going) → Steady k → {a b c : State} {some some' : Bool} → Did f a some b → Did k b some' c → Did (λ g. k (f g)) a (some || some') c
+did_both f k steady {a} {b} {c} {some} {some'} first second = record {
+  after = second.after ∙ ap (after k) first.after ∙ after_both f k steady a;
+  any = rw (first.any, second.any, first.after) (any_more (f (going a)).entries (k (going (after f a))).entries ∙ sym (ap (λ (g : Going). any_of g.entries) (going_on f k steady a)));
+}
+
+-- a table takes force in four steps
+pub forced_on : (t : PendingTable) (flag : Bool) (s : State) {a b c d : State} → a ≡ after (read_first flag s.clock) s → b ≡ after (on_blocks (brought_in t)) a → c ≡ after (on_head (row_spent t b.clock)) b → d ≡ after (noted c.clock (PendingActivated (table_number t))) c → d ≡ after (forced t s.clock flag) s
+forced_on t flag s one two three four =
+    let spent = λ (g : Going). on_head (row_spent t s.clock) (on_blocks (brought_in t) (read_first flag s.clock g)) in
+    rw (four, three, two, one) (after_both spent (noted s.clock (PendingActivated (table_number t))) (noted_steady s.clock (PendingActivated (table_number t))) s)
+
+-- a table takes force if a test of its row holds, and nothing happens if not
+did_same : (f k : Going → Going) (s : State) {s' : State} {some : Bool} → f (going s) ≡ k (going s) → Did f s some s' → Did k s some s'
+did_same f k s same did = record {
+  after = did.after ∙ ap (λ (g : Going). record { clock = s.clock; head = g.head; blocks = g.blocks }) same;
+  any = did.any ∙ ap (λ (g : Going). any_of g.entries) same;
+}
+
+pub did_chosen : (test : Row → Bool) (t : PendingTable) (a : State) {b : State} {some : Bool} → test (row_of t a.head) ≡ true → Did (activated a.clock t) a some b → Did (activated_if test a.clock t) a some b
+did_chosen test t a holds did =
+    did_same (activated a.clock t) (activated_if test a.clock t) a (ap (λ b. cond b (activated a.clock t (going a)) (going a)) (sym holds)) did
+
+pub did_passed : (test : Row → Bool) (t : PendingTable) (a : State) → test (row_of t a.head) ≡ false → Did (activated_if test a.clock t) a false a
+did_passed test t a fails =
+    did_same (λ g. g) (activated_if test a.clock t) a (ap (λ b. cond b (activated a.clock t (going a)) (going a)) (sym fails)) (record { after = refl; any = refl })
+
+-- one more of the three tables
+did_next : (test : Row → Bool) (ts : List PendingTable) (t : PendingTable) (s : State) {a b : State} {some some' : Bool} → Did (each_activated test s.clock ts) s some a → Did (activated_if test a.clock t) a some' b → Did (λ g. activated_if test s.clock t (each_activated test s.clock ts g)) s (some || some') b
+did_next test ts t s {a} {b} {some} {some'} first second =
+    let clock : a.clock ≡ s.clock = ap (λ (x : State). x.clock) first.after in
+    let then : Did (activated_if test s.clock t) a some' b = subst (λ c. Did (activated_if test c t) a some' b) clock second in
+    did_both (each_activated test s.clock ts) (activated_if test s.clock t) (activated_if_steady test s.clock t) first then
+
+pub did_more : (test : Row → Bool) (i : ℕ) (d : PendingTable) (s : State) {a b : State} {some some' : Bool} → i < 3 → Did (each_activated test s.clock (take i all_tables)) s some a → Did (activated_if test a.clock (get_or all_tables i d)) a some' b → Did (each_activated test s.clock (take (i + 1) all_tables)) s (some || some') b
+did_more test zero d s h first second = did_next test [] Calendar s first second
+did_more test (suc zero) d s h first second = did_next test (Calendar ∷ []) Outputs s first second
+did_more test (suc (suc zero)) d s h first second = did_next test (Calendar ∷ Outputs ∷ []) Override s first second
+did_more test (suc (suc (suc i))) d s h first second = absurd (omega arith)
+
+pub did_quiet : (step : Going → Going) (s : State) {s' : State} (some : Bool) → Did step s (some || false) s' → Did step s some s'
+did_quiet step s true did = did
+did_quiet step s false did = did
 
 -- a tick and a start
-pub ticked_on : (s : ℕ) (h : Head) (bs : List Block) {h₁ h₂ h₃ : Head} {bs₁ bs₂ bs₃ : List Block} {some₁ some₂ some₃ : Bool} → At h₁ bs₁ some₁ (time_changed s (working h bs)) → At h₂ bs₂ some₂ (scheduled_read s (working h₁ bs₁)) → At h₃ bs₃ some₃ (interval_read s (working h₂ bs₂)) → At h₃ bs₃ ((some₁ || some₂) || some₃) (ticked s (working h bs))
+pub ticked_on : (s : State) {a b c : State} {some some' some'' : Bool} → Did (time_changed s.clock) s some a → Did (scheduled_read a.clock) a some' b → Did (interval_read b.clock) b some'' c → Did (ticked s.clock) s ((some || some') || some'') c
 unfolding ticked
-ticked_on s h bs one two three =
-    let a = time_changed s (working h bs) in
-    let b = scheduled_read s a in
-    onward (interval_read s) (interval_read_steady s) b (onward (scheduled_read s) (scheduled_steady s) a one two) three
+ticked_on s {a} {b} {c} {some} {some'} {some''} one two three =
+    let at_a : a.clock ≡ s.clock = ap (λ (x : State). x.clock) one.after in
+    let at_b : b.clock ≡ s.clock = ap (λ (x : State). x.clock) two.after ∙ at_a in
+    let read : Did (scheduled_read s.clock) a some' b = subst (λ k. Did (scheduled_read k) a some' b) at_a two in
+    let ended : Did (interval_read s.clock) b some'' c = subst (λ k. Did (interval_read k) b some'' c) at_b three in
+    did_both (λ g. scheduled_read s.clock (time_changed s.clock g)) (interval_read s.clock) (interval_read_steady s.clock)
+    (did_both (time_changed s.clock) (scheduled_read s.clock) (scheduled_steady s.clock) one read) ended
 
-pub powered_on : (s : ℕ) (h : Head) (bs : List Block) {h₁ h₂ : Head} {bs₁ bs₂ : List Block} {some₁ some₂ : Bool} → At h₁ bs₁ some₁ (noted s PowerUp (working (mark_started h) bs)) → At h₂ bs₂ some₂ (time_changed s (working h₁ bs₁)) → At h₂ bs₂ (some₁ || some₂) (power_up s (working h bs))
+pub powered_on : (s : State) {a b c : State} → a ≡ after (on_head mark_started) s → b ≡ after (noted a.clock PowerUp) a → c ≡ after (time_changed b.clock) b → c ≡ after (power_up s.clock) s
 unfolding power_up
-powered_on s h bs one two = onward (time_changed s) (time_steady s) (noted s PowerUp (working (mark_started h) bs)) one two
+powered_on s one two three = rw (three, two, one) (after_both (λ g. noted s.clock PowerUp (on_head mark_started g)) (time_changed s.clock) (time_steady s.clock) s)

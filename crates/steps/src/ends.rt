@@ -1,11 +1,12 @@
 // How a call begins and ends: block 0 is read, and written.
-ghost use Rattle.std.specs.Prelude.{◌≡◌, OnOk};
-ghost use Rattle.access.specs.Ready.{Ready, content_of, stored};
+ghost use Rattle.std.specs.Prelude.{◌≡◌, ◌≤◌, [], ◌∷◌, OnOk};
+ghost use Rattle.access.specs.Ready.{content_of, stored};
 ghost use Rattle.head.specs.Heads.{decode_head, encode_head};
+ghost use Rattle.model.specs.States.{log_of};
 ghost use Rattle.model.specs.Calls.{limit_verdict, log_names};
 ghost use Rattle.steps.specs.Work.{Totals};
 
-use access::{load, store};
+use access::ReadyMemory;
 use head::head::{Head, decode, encode};
 use memory::memory::{BlockMemory, CONTENT};
 use model::log_limit;
@@ -13,40 +14,40 @@ use numbers::log::LogName;
 use refusals::fault::MeterFault;
 
 // What block 0 says.
-pub fn load_head<M: BlockMemory>(memory: &M) -> Head
-    requires ready { Ready (M.BlockMemory.blocks memory.now) }
-    ensures { result ≡ decode_head (content_of (M.BlockMemory.blocks memory.now) 0) }
+pub fn load_head<M: BlockMemory>(memory: &ReadyMemory<M>) -> Head
+    ensures { result ≡ decode_head (content_of (M.BlockMemory.blocks memory.now.memory) 0) }
 {
     let mut content = [0u8; CONTENT];
-    load(memory, 0, &mut content);
+    memory.load(0, &mut content);
     decode(&content)
 }
 
 // Block 0 says so from now on.
-pub fn store_head<M: BlockMemory>(memory: &mut M, head: &Head)
-    requires ready { Ready (M.BlockMemory.blocks memory.old) }
-    ensures blocks { M.BlockMemory.blocks memory.new ≡ stored (M.BlockMemory.blocks memory.old) 0 (encode_head head.now) }
-    ensures ready { Ready (M.BlockMemory.blocks memory.new) }
+pub fn store_head<M: BlockMemory>(memory: &mut ReadyMemory<M>, head: &Head)
+    ensures { M.BlockMemory.blocks memory.new.memory ≡ stored (M.BlockMemory.blocks memory.old.memory) 0 (encode_head head.now) }
 {
     let mut content = [0u8; CONTENT];
     encode(head, &mut content);
-    store(memory, 0, &content);
+    memory.store(0, &content);
 }
 
-// Whether every log has room for what a call can record.
+// Whether a log has room for what a call can record.
+fn check_total(head: &Head, name: LogName) -> Result<(), MeterFault>
+    ensures answer { result ≡ limit_verdict (name ∷ []) head.now }
+    ensures room { OnOk result ((log_of name head.now).total ≤ 4000000000) }
+{
+    if head.logs[name.index()].total > log_limit() {
+        return Err(MeterFault::LogLimit(name));
+    }
+    Ok(())
+}
+
+// Whether every log has.
 pub fn check_totals(head: &Head) -> Result<(), MeterFault>
     ensures answer { result ≡ limit_verdict log_names head.now }
     ensures room { OnOk result (Totals 4000000000 head.now) }
 {
-    let limit = log_limit();
-    if head.logs[0].total > limit {
-        return Err(MeterFault::LogLimit(LogName::History));
-    }
-    if head.logs[1].total > limit {
-        return Err(MeterFault::LogLimit(LogName::SelfReads));
-    }
-    if head.logs[2].total > limit {
-        return Err(MeterFault::LogLimit(LogName::LoadProfile));
-    }
-    Ok(())
+    check_total(head, LogName::History)?;
+    check_total(head, LogName::SelfReads)?;
+    check_total(head, LogName::LoadProfile)
 }

@@ -1,14 +1,14 @@
 // Energy and the tariff.
 ghost use Rattle.std.specs.Prelude.{◌≡◌, length};
-ghost use Rattle.access.specs.Ready.{Ready};
 ghost use Rattle.model.specs.Calls.{tier_at, feeding};
 ghost use Rattle.model.specs.Tariffs.{is_tier, active_tier, fed};
-ghost use Rattle.steps.specs.Work.{working, Grows};
+ghost use Rattle.steps.specs.Work.{after, Grows};
 
 use crate::parts::{CALENDAR, OVERRIDE, load_start};
+use crate::work::Work;
+use access::ReadyMemory;
 use calendar::split;
 use directory::staged::current_block;
-use head::head::Head;
 use memory::memory::BlockMemory;
 use pending::table::PendingTable;
 use records::registers::Registers;
@@ -38,9 +38,8 @@ fn active_tier(overriding: &[u8], calendar: &[u8], clock: u32) -> u8
 }
 
 // The tier that counts at a clock, by the tables in force.
-fn tier_at<M: BlockMemory>(memory: &M, clock: u32) -> u8
-    requires ready { Ready (M.BlockMemory.blocks memory.now) }
-    ensures { result ≡ tier_at clock (M.BlockMemory.blocks memory.now) }
+fn tier_at<M: BlockMemory>(memory: &ReadyMemory<M>, clock: u32) -> u8
+    ensures { result ≡ tier_at clock (M.BlockMemory.blocks memory.now.memory) }
 {
     let mut overriding = [0u8; OVERRIDE];
     load_start(
@@ -67,21 +66,15 @@ fn add_energy(registers: &mut Registers, tier: u8, wh: u32)
     }
 }
 
-fn feed_tier<M: BlockMemory>(memory: &M, head: &mut Head, clock: u32, wh: u32)
-    requires ready { Ready (M.BlockMemory.blocks memory.now) }
-    ensures head { head.new ≡ (feeding clock wh (working head.old (M.BlockMemory.blocks memory.now))).head }
-    ensures blocks { M.BlockMemory.blocks memory.now ≡ (feeding clock wh (working head.old (M.BlockMemory.blocks memory.now))).blocks }
-    ensures counts { Grows 0 head.old head.new }
-{
-    add_energy(&mut head.registers, tier_at(memory, clock), wh);
-}
-
-// Watt-hours for the total and the active tier. The blocks stay.
-pub fn feed<M: BlockMemory>(memory: &M, head: &mut Head, clock: u32, wh: u32)
-    requires ready { Ready (M.BlockMemory.blocks memory.now) }
-    ensures head { head.new ≡ (feeding clock wh (working head.old (M.BlockMemory.blocks memory.now))).head }
-    ensures blocks { M.BlockMemory.blocks memory.now ≡ (feeding clock wh (working head.old (M.BlockMemory.blocks memory.now))).blocks }
-    ensures counts { Grows 0 head.old head.new }
-{
-    feed_tier(memory, head, clock, wh);
+impl<M: BlockMemory> Work<M> {
+    // Watt-hours for the total and the active tier. The blocks stay.
+    #[tactic(auto, unfolding(model::specs::Calls::feeding))]
+    pub fn feed(&mut self, wh: u32)
+        ensures after { self.new ≡ after (feeding self.old.clock wh) self.old }
+        ensures blocks { self.new.blocks ≡ self.old.blocks }
+        ensures counts { Grows 0 self.old.head self.new.head }
+    {
+        let tier = tier_at(&self.memory, self.clock);
+        add_energy(&mut self.head.registers, tier, wh);
+    }
 }

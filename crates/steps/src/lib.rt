@@ -7,3 +7,4 @@ pub mod energy;
 pub mod entry;
 pub mod force;
 mod parts;
+pub mod work;

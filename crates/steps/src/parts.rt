@@ -1,10 +1,10 @@
 // The table at the start of a block, with room for one block at a time.
 ghost use Rattle.std.specs.Prelude.{◌≡◌, ◌<◌, ◌≤◌, length};
-ghost use Rattle.access.specs.Ready.{needed, Ready, content_of, stored};
+ghost use Rattle.access.specs.Ready.{needed, content_of, stored};
 ghost use Rattle.fields.specs.Patches.{patch};
 ghost use Rattle.fields.specs.Words.{part};
 
-use access::{load, store};
+use access::ReadyMemory;
 use fields::bytes::put_bytes;
 use memory::memory::{BlockMemory, CONTENT};
 
@@ -14,27 +14,24 @@ pub(crate) const CALENDAR: usize = 120;
 pub(crate) const OVERRIDE: usize = 16;
 
 // The first bytes of a block, as many as `out` has room for.
-pub(crate) fn load_start<M: BlockMemory>(memory: &M, block: u32, out: &mut [u8])
-    requires ready { Ready (M.BlockMemory.blocks memory.now) }
+pub(crate) fn load_start<M: BlockMemory>(memory: &ReadyMemory<M>, block: u32, out: &mut [u8])
     requires below { block < needed }
     requires short { length out.old ≤ 510 }
-    ensures { out.new ≡ part (length out.old) 0 (content_of (M.BlockMemory.blocks memory.now) block) }
+    ensures { out.new ≡ part (length out.old) 0 (content_of (M.BlockMemory.blocks memory.now.memory) block) }
 {
     let mut content = [0u8; CONTENT];
-    load(memory, block, &mut content);
+    memory.load(block, &mut content);
     out.copy_from_slice(&content[0..out.len()]);
 }
 
 // New bytes at the start of a block. What stands behind them stays.
-pub(crate) fn store_start<M: BlockMemory>(memory: &mut M, block: u32, new: &[u8])
-    requires ready { Ready (M.BlockMemory.blocks memory.old) }
+pub(crate) fn store_start<M: BlockMemory>(memory: &mut ReadyMemory<M>, block: u32, new: &[u8])
     requires below { block < needed }
     requires short { length new.now ≤ 510 }
-    ensures blocks { M.BlockMemory.blocks memory.new ≡ stored (M.BlockMemory.blocks memory.old) block (patch 0 new.now (content_of (M.BlockMemory.blocks memory.old) block)) }
-    ensures ready { Ready (M.BlockMemory.blocks memory.new) }
+    ensures { M.BlockMemory.blocks memory.new.memory ≡ stored (M.BlockMemory.blocks memory.old.memory) block (patch 0 new.now (content_of (M.BlockMemory.blocks memory.old.memory) block)) }
 {
     let mut content = [0u8; CONTENT];
-    load(memory, block, &mut content);
+    memory.load(block, &mut content);
     put_bytes(&mut content, 0, new);
-    store(memory, block, &content);
+    memory.store(block, &content);
 }

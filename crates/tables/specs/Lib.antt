@@ -1,2 +1,3 @@
 pub mod Responses
 pub mod Lengths
+pub mod Readouts

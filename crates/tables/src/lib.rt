@@ -3,6 +3,7 @@
 
 mod copy;
 pub mod read;
+pub mod readout;
 pub mod response;
 mod stored;
 mod views;

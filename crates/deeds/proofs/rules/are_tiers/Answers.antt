@@ -1,16 +1,11 @@
-use Rattle.std.proofs.Common.{sym, ◌∙◌, arith}
-use Rattle.std.proofs.lemmas.List.{at_drop_all}
-use Rattle.model.specs.Tariffs.{all_tiers}
-use Rattle.deeds.proofs.Contents.{tier_front}
+use Rattle.std.proofs.Common.{◌∙◌, rules, tests}
+use Rattle.std.proofs.lemmas.Iterator.{YieldsList-from_slice}
+use Rattle.std.proofs.lemmas.Iterator.Search.{all_from_yields_List}
+use Rattle.model.specs.Tariffs.{is_tier}
+use Rattle.deeds.proofs.Contents.{all_are_tiers}
 use Rattle.deeds.proofs.rules.are_tiers.Goals as goal
 
-pub returns-then-not-is_tier : goal.returns-then-not-is_tier
-returns-then-not-is_tier c =
-    tier_front c.args.bytes.now c.loop-byte.byte-index _ c.loop-byte-test.true (sym c.if-not-is_tier.true ∙ c.is_tier.ensures) c.loop-byte.invariant
-
-pub loop-byte-preserved : goal.loop-byte-preserved
-loop-byte-preserved c =
-    tier_front c.args.bytes.now c.loop-byte.byte-index _ c.loop-byte-test.true (sym c.if-not-is_tier.false ∙ c.is_tier.ensures) c.loop-byte.invariant
-
 pub returns : goal.returns
-returns c = sym (at_drop_all all_tiers c.args.bytes.now c.loop-byte.byte-index (omega arith)) ∙ c.loop-byte.invariant
+returns c =
+    all_from_yields_List is_tier _ _ _ c.all.ensures.ran (YieldsList-from_slice c.args.bytes.now cc) (λ x b q k. search (rules, tests))
+    ∙ all_are_tiers c.args.bytes.now
