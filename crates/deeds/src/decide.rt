@@ -29,6 +29,7 @@ fn check_key(key: u8, request: &Request) -> Result<(), ServiceFault>
     }
 }
 
+// What is found is usable: a fact of the whole directory, whose proof needs a file.
 fn usable_table(number: u16, service: Service) -> Result<TableEntry, ServiceFault>
     ensures entry { result ≡ table_for number service }
     ensures usable { IfOk result (Usable service) }
@@ -103,7 +104,7 @@ fn fit<'a>(table: TableEntry, request: Request<'a>) -> Result<Deed<'a>, ServiceF
     }
 }
 
-// The same, with what acting on the deed leans on.
+// The same, with what acting on the deed leans on, whose proof needs a file.
 fn fit_safely<'a>(table: TableEntry, request: Request<'a>) -> Result<Deed<'a>, ServiceFault>
     requires { Usable (service_of (ask_of request)) table }
     ensures deed { decided_as result ≡ fitted table (ask_of request.entry) }

@@ -3,8 +3,6 @@ use Rattle.std.proofs.Common.{◌≡◌, ℕ, zero, suc, ◌+◌, ◌%◌, ◌<�
 use Rattle.memory.specs.Blocks.{Block}
 use Rattle.records.specs.declared.event.Event.{Event}
 use Rattle.records.specs.declared.event.Event.TheVariants.{PowerUp, PendingActivated}
-use Rattle.pending.specs.declared.plan.Plan.{Plan}
-use Rattle.pending.specs.declared.trigger.Due.{Due}
 use Rattle.pending.specs.declared.row.Row.{Row}
 use Rattle.pending.specs.declared.row.Row.TheVariants.{Empty, Waiting}
 use Rattle.pending.specs.declared.table.PendingTable.{PendingTable}
@@ -17,7 +15,7 @@ use Rattle.model.specs.Steps.{entered, noted, self_read_taken, interval_taken, r
 use Rattle.model.specs.Calls.{scheduled_read, interval_read, ticked, mark_started, power_up}
 use Rattle.model.specs.Tables.{current_table}
 use Rattle.model.specs.Tariffs.{is_scheduled}
-use Rattle.steps.specs.Work.{State, working, going, after, any_of, forced}
+use Rattle.steps.specs.Work.{State, going, after, any_of, forced}
 
 -- the same with entries recorded before
 abbrev pub told : List Recorded → Going → Going

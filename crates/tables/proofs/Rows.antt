@@ -1,6 +1,6 @@
 -- The rows of the pending status.
-use Rattle.std.proofs.Common.{◌≡◌, ℕ, ◌+◌, ◌<◌, true, false, List, [], ◌∷◌, ◌++◌, length, get_or, drop, replicate, refl, ◌∙◌, arith}
-use Rattle.std.proofs.lemmas.List.{at_drop_more, length-append}
+use Rattle.std.proofs.Common.{◌≡◌, ℕ, zero, suc, ◌+◌, ◌*◌, ◌<◌, true, List, [], ◌∷◌, ◌++◌, length, get_or, filter, replicate, refl, ◌∙◌, arith}
+use Rattle.std.proofs.lemmas.List.{length-append}
 use Rattle.std.proofs.lemmas.Bool.{cond_both}
 use Rattle.calendar.specs.Calendar.{date_of, bytes_of}
 use Rattle.fields.specs.Words.{le_bytes}
@@ -12,9 +12,12 @@ use Rattle.pending.specs.declared.trigger.Trigger.TheVariants.{Absolute, Relativ
 use Rattle.pending.specs.declared.row.Row.{Row}
 use Rattle.pending.specs.declared.row.Row.TheVariants.{Empty, Waiting}
 use Rattle.pending.specs.declared.table.PendingTable.{PendingTable}
+use Rattle.pending.specs.declared.table.PendingTable.TheVariants.{Calendar}
+use Rattle.head.specs.declared.head.Head.{Head}
+use Rattle.model.specs.States.{row_of}
 use Rattle.pending.specs.Triggers.{parts_of}
 use Rattle.pending.specs.Rows.{is_waiting, row_plan_bytes}
-use Rattle.pending.specs.Tables.{table_number}
+use Rattle.pending.specs.Tables.{table_number, table_index, all_tables}
 use Rattle.model.specs.Tables.{activation_date, waiting_in, row_shown}
 
 length_parts : (t : Trigger) → length (parts_of t) ≡ 5
@@ -34,12 +37,22 @@ pub waiting_shown : (t : PendingTable) (row : Row) → is_waiting row ≡ true �
 waiting_shown t Empty w = let z : ◌≡◌ {A = ℕ} 0 1 = cc in absurd (omega arith)
 waiting_shown t (Waiting plan due) w = refl
 
--- one row more, of which one waits or none
-pub waiting_counted : (rows : List Row) (i : ℕ) (d : Row) → i < length rows → true ≡ is_waiting (get_or rows i d) → waiting_in (drop i rows) ≡ 1 + waiting_in (drop (i + 1) rows)
-waiting_counted rows i d h w = at_drop_more waiting_in rows i d h ∙ rw (← w) refl
+-- as many rows wait as pass the test
+pub waiting_passed : (rows : List Row) → length (filter is_waiting rows) ≡ waiting_in rows
+waiting_passed [] = refl
+waiting_passed (Empty ∷ rows) = omega (arith, waiting_passed rows)
+waiting_passed (Waiting plan due ∷ rows) = omega (arith, waiting_passed rows)
 
-pub waiting_passed : (rows : List Row) (i : ℕ) (d : Row) → i < length rows → false ≡ is_waiting (get_or rows i d) → waiting_in (drop i rows) ≡ waiting_in (drop (i + 1) rows)
-waiting_passed rows i d h w = at_drop_more waiting_in rows i d h ∙ rw (← w) (omega arith)
+-- the first rows put into their places
+abbrev pub rows_put : ℕ → Head → List ℕ → List ℕ
+rows_put zero h bytes = bytes
+rows_put (suc i) h bytes = patch (7 + 8 * i) (row_shown (get_or all_tables i Calendar) (row_of (get_or all_tables i Calendar) h)) (rows_put i h bytes)
+
+pub one_row_put : (i : ℕ) (h : Head) (t : PendingTable) (bytes old new shown : List ℕ) (row : Row) (place : ℕ) → t ≡ get_or all_tables i Calendar → i < 3 → place ≡ table_index t → row ≡ row_of t h → shown ≡ row_shown t row → old ≡ rows_put i h bytes → new ≡ patch (7 + 8 * place) shown old → new ≡ rows_put (i + 1) h bytes
+one_row_put zero h t bytes old new shown row place is below at same as_row before put = rw (put, as_row, same, at, is, before) refl
+one_row_put (suc zero) h t bytes old new shown row place is below at same as_row before put = rw (put, as_row, same, at, is, before) refl
+one_row_put (suc (suc zero)) h t bytes old new shown row place is below at same as_row before put = rw (put, as_row, same, at, is, before) refl
+one_row_put (suc (suc (suc i))) h t bytes old new shown row place is below at same as_row before put = absurd (omega arith)
 
 -- the date, the count and the rows, one behind another
 pub status_written : (date first second third old d f s t m₁ m₂ m₃ m₄ m₅ : List ℕ) (count n : ℕ) → length date ≡ 6 → length first ≡ 8 → length second ≡ 8 → length third ≡ 8 → length old ≡ 31 →

@@ -35,17 +35,10 @@ fn activation_date(activation: Activation) -> [u8; 6]
     }
 }
 
-fn count_waiting(rows: &[Row]) -> u8
-    requires { length rows.now ≤ 3 }
+fn count_waiting(rows: &[Row; 3]) -> u8
     ensures { result ≡ waiting_in rows.now }
 {
-    let mut count = 0u8;
-    for row in rows {
-        if row.is_waiting() {
-            count += 1;
-        }
-    }
-    count
+    rows.iter().filter(|row| row.is_waiting()).count() as u8
 }
 
 // A row's trigger bytes and its table's number, or zeros.
@@ -67,21 +60,14 @@ pub(crate) fn pending_status(head: &Head) -> [u8; 31]
     let mut bytes = [0u8; 31];
     put_bytes(&mut bytes, 0, &activation_date(head.activation));
     put8(&mut bytes, 6, count_waiting(&head.rows));
-    put_bytes(
-        &mut bytes,
-        7,
-        &row_shown(PendingTable::Calendar, head.rows[0]),
-    );
-    put_bytes(
-        &mut bytes,
-        15,
-        &row_shown(PendingTable::Outputs, head.rows[1]),
-    );
-    put_bytes(
-        &mut bytes,
-        23,
-        &row_shown(PendingTable::Override, head.rows[2]),
-    );
+    for table in PendingTable::ALL {
+        let place = table.index();
+        put_bytes(
+            &mut bytes,
+            7 + 8 * place,
+            &row_shown(table, head.rows[place]),
+        );
+    }
     bytes
 }
 

@@ -1,10 +1,22 @@
-use Rattle.std.proofs.Common.{refl}
+use Rattle.std.proofs.Common.{◌≡◌, get_or, refl, arith}
+use Rattle.pending.specs.declared.row.Row.TheVariants.{Empty}
 use Rattle.pending.specs.declared.table.PendingTable.TheVariants.{Calendar, Outputs, Override}
-use Rattle.tables.proofs.Rows.{length_activation_date, length_row_shown, status_written}
+use Rattle.pending.specs.Tables.{all_tables}
+use Rattle.model.specs.States.{row_of}
+use Rattle.tables.proofs.Rows.{length_activation_date, length_row_shown, one_row_put, status_written}
 use Rattle.tables.proofs.views.pending_status.Goals as goal
+
+pub loop-table-preserved : goal.loop-table-preserved
+loop-table-preserved c =
+    let h = c.args.head.now in
+    let i = c.loop-table.table-index in
+    let row : get_or h.rows c.index-place.result Empty ≡ row_of (get_or all_tables i Calendar) h = rw c.index-place.ensures.value refl in
+    one_row_put i h _ c.put8.new.bytes _ _ _ _ _ refl (omega arith) c.index-place.ensures.value row c.row_shown.ensures c.loop-table.invariant c.put_bytes-in-loop-table.ensures.patched
 
 pub returns : goal.returns
 returns c =
+    let all : c.loop-table.table-index ≡ 3 = omega arith in
+    let rows = rw all at c.loop-table.invariant in
     status_written _ _ _ _ _ _ _ _ _ _ _ _ _ _ _ _ (length_activation_date c.args.head.now.activation) (length_row_shown Calendar _) (length_row_shown Outputs _) (length_row_shown Override _) refl
-    c.activation_date.ensures c.count_waiting.ensures c.row_shown.ensures c.row_shown-2.ensures c.row_shown-3.ensures
-    c.put_bytes.ensures.patched c.put8.ensures c.put_bytes-2.ensures.patched c.put_bytes-3.ensures.patched c.put_bytes-4.ensures.patched
+    c.activation_date.ensures c.count_waiting.ensures refl refl refl
+    c.put_bytes.ensures.patched c.put8.ensures refl refl rows
