@@ -6,6 +6,7 @@ use Rattle.fields.specs.Patches.{patch}
 use Rattle.fields.proofs.Places.{length_patch, part_patch_same, part_patch_other}
 use Rattle.memory.specs.Blocks.{sound, corrupt, corrupt_from, lowest_corrupt}
 use Rattle.memory.specs.Images.{block_count, bare_block, bare_blocks}
+use Rattle.memory.specs.ImageLaws.{bare_count}
 use Rattle.memory.proofs.ImageBlocks.{count_is, block_is, blocks_set}
 
 pub bare_at : (bytes : List ℕ) (n : ℕ) → n < length (bare_blocks bytes) → get_or (bare_blocks bytes) n corrupt ≡ sound (part 510 (n * 510) bytes)
@@ -31,3 +32,5 @@ bare_set bytes content n inside whole =
     blocks_set bare_block 510 bytes (patch (n * 510) content bytes) n (sound content) below (omega (arith, long))
     (ap sound (part_patch_same (n * 510) 510 content bytes fits whole))
     (λ k other l. ap sound (part_patch_other (n * 510) 510 (k * 510) content bytes fits (grind arith)))
+
+pub ruleset bare = (bare_count, bare_at, bare_lowest, bare_set)

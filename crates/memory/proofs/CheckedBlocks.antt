@@ -1,27 +1,18 @@
 -- A checked image's blocks.
-use Rattle.std.proofs.Common.{◌≡◌, ℕ, ◌+◌, ◌*◌, ◌<◌, ◌≤◌, Bool, true, false, eqb, List, length, get_or, set, sym, refl, ◌∙◌, arith}
-use Rattle.std.proofs.lemmas.Bool.{eq-eqb, cond-true, cond-false}
+use Rattle.std.proofs.Common.{◌≡◌, ℕ, ◌+◌, ◌*◌, ◌<◌, ◌≤◌, true, eqb, List, length, get_or, set, refl, ◌∙◌, ◌++◌, arith}
+use Rattle.std.proofs.lemmas.Bool.{eq-eqb}
 use Rattle.fields.specs.Words.{le_bytes}
 use Rattle.fields.specs.Patches.{patch}
-use Rattle.fields.proofs.Places.{length_patch, part_patch_same, part_patch_other, word_patch_same, word_patch_other}
+use Rattle.fields.proofs.Places.{length_patch, patch_more, part_patch_same, part_patch_other, word_patch_same, word_patch_other}
 use Rattle.memory.specs.Blocks.{sound, corrupt}
 use Rattle.memory.specs.Checksum.{checksum_of}
 use Rattle.memory.specs.Images.{checked_block, checked_blocks, content_at, stored_checksum}
+use Rattle.memory.specs.ImageLaws.{checked_count}
 use Rattle.memory.proofs.ImageBlocks.{count_is, block_is, blocks_set}
 
--- the stored checksum of a block is that of its content
-abbrev pub fits : List ℕ → ℕ → Bool
-fits bytes n = eqb (stored_checksum bytes n) (checksum_of n (content_at bytes n))
-
-checked_at : (bytes : List ℕ) (n : ℕ) → n < length (checked_blocks bytes) → get_or (checked_blocks bytes) n corrupt ≡ checked_block bytes n
+pub checked_at : (bytes : List ℕ) (n : ℕ) → n < length (checked_blocks bytes) → get_or (checked_blocks bytes) n corrupt ≡ checked_block bytes n
 unfolding checked_blocks
 checked_at bytes n inside = block_is checked_block 512 bytes n corrupt (omega (arith, count_is checked_block 512 bytes))
-
-pub checked_sound : (bytes : List ℕ) (n : ℕ) → n < length (checked_blocks bytes) → true ≡ fits bytes n → get_or (checked_blocks bytes) n corrupt ≡ sound (content_at bytes n)
-checked_sound bytes n inside e = checked_at bytes n inside ∙ cond-true _ _ _ (sym e)
-
-pub checked_corrupt : (bytes : List ℕ) (n : ℕ) → n < length (checked_blocks bytes) → false ≡ fits bytes n → get_or (checked_blocks bytes) n corrupt ≡ corrupt
-checked_corrupt bytes n inside e = checked_at bytes n inside ∙ cond-false _ _ _ (sym e)
 
 pub checksum_small : (n : ℕ) (content : List ℕ) → checksum_of n content < 65521
 checksum_small n content = omega arith
@@ -78,3 +69,12 @@ module _ (bytes content : List ℕ) (n : ℕ) (inside : n * 512 + 512 ≤ length
       blocks_set checked_block 512 bytes second n (sound content) (omega (arith, count_is checked_block 512 bytes)) (omega (arith, second_long))
       block_here
       (λ k other l. block_other k other)
+
+-- what a write of a content and its checksum leaves
+pub checked_patched : (bytes content : List ℕ) (n : ℕ) → n < length (checked_blocks bytes) → length content ≡ 510 → patch (n * 512 + 510) (le_bytes 2 (checksum_of n content)) (patch (n * 512) content bytes) ≡ patch (n * 512) (content ++ le_bytes 2 (checksum_of n content)) bytes
+checked_patched bytes content n below whole = patch_more (n * 512) 510 content (le_bytes 2 (checksum_of n content)) bytes (omega (arith, checked_count bytes)) whole
+
+pub checked_written_blocks : (bytes content : List ℕ) (n : ℕ) → n < length (checked_blocks bytes) → length content ≡ 510 → checked_blocks (patch (n * 512 + 510) (le_bytes 2 (checksum_of n content)) (patch (n * 512) content bytes)) ≡ set (checked_blocks bytes) n (sound content)
+checked_written_blocks bytes content n below whole = checked_set bytes content n (omega (arith, checked_count bytes)) whole below
+
+pub ruleset checked = (checked_count, checked_at, checked_patched, checked_written_blocks, length_patch)

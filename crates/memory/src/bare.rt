@@ -15,21 +15,7 @@ pub struct Bare;
 
 pub type BareImage<'a> = Image<'a, Bare>;
 
-fn content_at(bytes: &[u8], block: u32) -> [u8; CONTENT]
-    requires { block < length (bare_blocks bytes.now) }
-    ensures { slice_index_or (bare_blocks bytes.now) block corrupt ≡ sound result }
-{
-    array_at(bytes, block as usize * CONTENT)
-}
-
-fn put_content(bytes: &mut [u8], block: u32, content: &[u8; CONTENT])
-    requires { block < length (bare_blocks bytes.old) }
-    ensures bytes { bytes.new ≡ patch (block * 510) content.now bytes.old }
-    ensures blocks { bare_blocks bytes.new ≡ slice_set (bare_blocks bytes.old) block (sound content.now) }
-{
-    put_bytes(bytes, block as usize * CONTENT, content);
-}
-
+#[tactic(auto, using(crate::proofs::BareBlocks::bare))]
 impl Run for Bare {
     ghost WIDTH = { 510 };
 
@@ -45,17 +31,16 @@ impl Run for Bare {
 
     ghost count = { bare_count };
 
-    #[tactic(auto, using(crate::proofs::BareBlocks::bare_lowest))]
     fn lowest_corrupt(_bytes: &[u8], _below: u32) -> Option<u32> {
         None
     }
 
     fn copy_run(bytes: &[u8], block: u32, content: &mut [u8; CONTENT]) -> Result<(), MemoryFault> {
-        *content = content_at(bytes, block);
+        *content = array_at(bytes, block as usize * CONTENT);
         Ok(())
     }
 
     fn replace_run(bytes: &mut [u8], block: u32, content: &[u8; CONTENT]) {
-        put_content(bytes, block, content);
+        put_bytes(bytes, block as usize * CONTENT, content);
     }
 }

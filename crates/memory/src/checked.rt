@@ -1,10 +1,10 @@
 // The checked image: runs of 512 bytes, a block's content and then its checksum, least significant byte first.
-ghost use Rattle.std.specs.Prelude.{◌≡◌, ◌*◌, ◌<◌, ◌≤◌, ◌++◌, length, ◌==◌, slice_index_or, slice_set};
+ghost use Rattle.std.specs.Prelude.{◌≡◌, ◌*◌, ◌<◌, ◌≤◌, ◌++◌, length, cond, slice_index_or, slice_set};
 ghost use Rattle.fields.specs.Words.{le_bytes};
 ghost use Rattle.fields.specs.Patches.{patch};
 ghost use Rattle.memory.specs.Blocks.{sound, corrupt, content_or, lowest_corrupt};
 ghost use Rattle.memory.specs.Checksum.{checksum_of};
-ghost use Rattle.memory.specs.Images.{checked_blocks, content_at, stored_checksum};
+ghost use Rattle.memory.specs.Images.{checked_blocks, content_at};
 ghost use Rattle.memory.specs.ImageLaws.{checked_whole, checked_count, checked_some};
 ghost use Rattle.memory.specs.Verdicts.{sound_verdict};
 
@@ -24,10 +24,11 @@ pub struct Checked;
 
 pub type CheckedImage<'a> = Image<'a, Checked>;
 
-// Whether the stored checksum of a block is that of its content.
-fn fits(bytes: &[u8], block: u32) -> bool
+// Whether the stored checksum of a block is that of its content, and so the block is sound.
+#[tactic(auto, using(crate::proofs::CheckedBlocks::checked))]
+fn is_sound(bytes: &[u8], block: u32) -> bool
     requires { block < length (checked_blocks bytes.now) }
-    ensures { result ≡ (stored_checksum bytes.now block == checksum_of block (content_at bytes.now block)) }
+    ensures { slice_index_or (checked_blocks bytes.now) block corrupt ≡ cond result (sound (content_at bytes.now block)) corrupt }
 {
     let at = block as usize * RUN;
     get16::<Little>(bytes, at + CONTENT) == checksum(block, &array_at(bytes, at))
@@ -38,37 +39,15 @@ fn first_corrupt(bytes: &[u8], below: u32) -> Option<u32>
     ensures { result ≡ lowest_corrupt below (checked_blocks bytes.now) }
 {
     let end = below.min(block_count(bytes, RUN));
-    for n in 0..end {
-        if !fits(bytes, n) {
-            return Some(n);
-        }
-    }
-    None
+    (0..end).find(
+        |n: &u32| -> bool
+            requires { n.now < length (checked_blocks bytes.now) }
+            ensures { slice_index_or (checked_blocks bytes.entry.now) n.now corrupt ≡ cond result corrupt (sound (content_at bytes.entry.now n.now)) }
+        { !is_sound(bytes, *n) },
+    )
 }
 
-// Copies a content out if it is sound.
-fn copy_content(bytes: &[u8], block: u32, content: &mut [u8; CONTENT]) -> Result<(), MemoryFault>
-    requires { block < length (checked_blocks bytes.now) }
-    ensures answer { result ≡ sound_verdict block (slice_index_or (checked_blocks bytes.now) block corrupt) }
-    ensures content { content.new ≡ content_or content.old (slice_index_or (checked_blocks bytes.now) block corrupt) }
-{
-    if !fits(bytes, block) {
-        return Err(MemoryFault::Corrupt(block));
-    }
-    *content = array_at(bytes, block as usize * RUN);
-    Ok(())
-}
-
-fn put_content(bytes: &mut [u8], block: u32, content: &[u8; CONTENT])
-    requires { block < length (checked_blocks bytes.old) }
-    ensures bytes { bytes.new ≡ patch (block * 512) (content.now ++ le_bytes 2 (checksum_of block content.now)) bytes.old }
-    ensures blocks { checked_blocks bytes.new ≡ slice_set (checked_blocks bytes.old) block (sound content.now) }
-{
-    let at = block as usize * RUN;
-    put_bytes(bytes, at, content);
-    put16::<Little>(bytes, at + CONTENT, checksum(block, content));
-}
-
+#[tactic(auto, using(crate::proofs::CheckedBlocks::checked))]
 impl Run for Checked {
     ghost WIDTH = { 512 };
 
@@ -89,10 +68,16 @@ impl Run for Checked {
     }
 
     fn copy_run(bytes: &[u8], block: u32, content: &mut [u8; CONTENT]) -> Result<(), MemoryFault> {
-        copy_content(bytes, block, content)
+        if !is_sound(bytes, block) {
+            return Err(MemoryFault::Corrupt(block));
+        }
+        *content = array_at(bytes, block as usize * RUN);
+        Ok(())
     }
 
     fn replace_run(bytes: &mut [u8], block: u32, content: &[u8; CONTENT]) {
-        put_content(bytes, block, content);
+        let start = block as usize * RUN;
+        put_bytes(bytes, start, content);
+        put16::<Little>(bytes, start + CONTENT, checksum(block, content));
     }
 }
