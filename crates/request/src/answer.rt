@@ -20,6 +20,7 @@ const ANSWER: usize = 1028;
 
 const SCRATCH: usize = 510;
 
+#[tactic(auto, using(fields::proofs::Overlays::overlay_is_patch))]
 fn put_front(bytes: &mut [u8], new: &[u8])
     requires { length new.now ≤ length bytes.old }
     ensures { bytes.new ≡ overlay new.now bytes.old }
@@ -27,6 +28,7 @@ fn put_front(bytes: &mut [u8], new: &[u8])
     put_bytes(bytes, 0, new);
 }
 
+#[tactic(auto, unfolding(crate::specs::Answers::zeroed, fields::specs::Patches::overlay))]
 fn zero_front(bytes: &mut [u8], count: usize)
     requires { count ≤ length bytes.old }
     ensures { bytes.new ≡ zeroed count bytes.old }
@@ -43,6 +45,7 @@ fn check_of(answer: &[u8], count: u16) -> u8
     0u8.wrapping_sub(byte_sum(&answer[3..3 + count as usize]))
 }
 
+#[tactic(auto, using(crate::proofs::Seals::enclosed))]
 // A code and a count before the bytes that stand in an answer, and a check after them.
 fn enclose(answer: &mut [u8], code: AnswerCode, count: u16, check: u8)
     requires { count + 4 ≤ length answer.old }
