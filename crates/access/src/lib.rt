@@ -1,7 +1,7 @@
 // Reads and writes that cannot fail, in a memory that was found ready for a meter.
 #![tactic(auto)]
 
-ghost use Rattle.std.specs.Prelude.{◌≡◌, ◌<◌, length, OnOk};
+ghost use Rattle.std.specs.Prelude.{◌≡◌, ◌<◌, length, Ok, Err, OnOk, MatchResult};
 ghost use Rattle.access.specs.Ready.{needed, Ready, content_of, stored, ready_verdict, size_verdict};
 
 use memory::fault::MemoryFault;
@@ -61,6 +61,16 @@ pub struct ReadyMemory<M: BlockMemory> {
 }
 
 impl<M: BlockMemory> ReadyMemory<M> {
+    // The memory if it is ready, or else what is wrong and the memory back.
+    pub fn check(memory: M) -> Result<ReadyMemory<M>, (MemoryFault, M)>
+        ensures { MatchResult result (λ r. (r.memory ≡ memory) × (ready_verdict (M.BlockMemory.blocks memory) ≡ Ok tt)) (λ e. (e.1 ≡ memory) × (ready_verdict (M.BlockMemory.blocks memory) ≡ Err e.0)) }
+    {
+        match check_blocks(&memory) {
+            Ok(()) => Ok(ReadyMemory { memory }),
+            Err(fault) => Err((fault, memory)),
+        }
+    }
+
     // What a check found ready.
     pub fn new(found: M) -> ReadyMemory<M>
         requires { Ready (M.BlockMemory.blocks found) }

@@ -15,7 +15,7 @@ use Rattle.model.specs.Steps.{entered, noted, self_read_taken, interval_taken, r
 use Rattle.model.specs.Calls.{scheduled_read, interval_read, ticked, mark_started, power_up}
 use Rattle.model.specs.Tables.{current_table}
 use Rattle.model.specs.Tariffs.{is_scheduled}
-use Rattle.steps.specs.Work.{State, going, after, any_of, forced}
+use Rattle.steps.specs.Work.{State, going, after, any_of, Did, forced}
 
 -- the same with entries recorded before
 abbrev pub told : List Recorded → Going → Going
@@ -90,11 +90,6 @@ any_more : (xs ys : List Recorded) → (any_of xs || any_of ys) ≡ any_of (xs +
 any_more [] ys = refl
 any_more (x ∷ xs) ys = refl
 
--- what a step did to the state of code, and whether it recorded anything
-pub record Did (step : Going → Going) (s : State) (some : Bool) (s' : State) : Type 0 where
-  pub after : s' ≡ after step s
-  pub any : some ≡ any_of (step (going s)).entries
-
 -- a step goes on from the head and the blocks alone
 going_on : (f k : Going → Going) → Steady k → (s : State) → k (f (going s)) ≡ told (f (going s)).entries (k (going (after f s)))
 going_on f k steady s =
@@ -107,8 +102,8 @@ after_both f k steady s = ap (λ (g : Going). record { clock = s.clock; head = g
 
 pub did_both : (f k : Going → Going) → Steady k → {a b c : State} {some some' : Bool} → Did f a some b → Did k b some' c → Did (λ g. k (f g)) a (some || some') c
 did_both f k steady {a} {b} {c} {some} {some'} first second = record {
-  after = second.after ∙ ap (after k) first.after ∙ after_both f k steady a;
-  any = rw (first.any, second.any, first.after) (any_more (f (going a)).entries (k (going (after f a))).entries ∙ sym (ap (λ (g : Going). any_of g.entries) (going_on f k steady a)));
+  state = second.state ∙ ap (after k) first.state ∙ after_both f k steady a;
+  any = rw (first.any, second.any, first.state) (any_more (f (going a)).entries (k (going (after f a))).entries ∙ sym (ap (λ (g : Going). any_of g.entries) (going_on f k steady a)));
 }
 
 -- a table takes force in four steps
@@ -120,7 +115,7 @@ forced_on t flag s one two three four =
 -- a table takes force if a test of its row holds, and nothing happens if not
 did_same : (f k : Going → Going) (s : State) {s' : State} {some : Bool} → f (going s) ≡ k (going s) → Did f s some s' → Did k s some s'
 did_same f k s same did = record {
-  after = did.after ∙ ap (λ (g : Going). record { clock = s.clock; head = g.head; blocks = g.blocks }) same;
+  state = did.state ∙ ap (λ (g : Going). record { clock = s.clock; head = g.head; blocks = g.blocks }) same;
   any = did.any ∙ ap (λ (g : Going). any_of g.entries) same;
 }
 
@@ -130,12 +125,12 @@ did_chosen test t a holds did =
 
 pub did_passed : (test : Row → Bool) (t : PendingTable) (a : State) → test (row_of t a.head) ≡ false → Did (activated_if test a.clock t) a false a
 did_passed test t a fails =
-    did_same (λ g. g) (activated_if test a.clock t) a (ap (λ b. cond b (activated a.clock t (going a)) (going a)) (sym fails)) (record { after = refl; any = refl })
+    did_same (λ g. g) (activated_if test a.clock t) a (ap (λ b. cond b (activated a.clock t (going a)) (going a)) (sym fails)) (record { state = refl; any = refl })
 
 -- one more of the three tables
 did_next : (test : Row → Bool) (ts : List PendingTable) (t : PendingTable) (s : State) {a b : State} {some some' : Bool} → Did (each_activated test s.clock ts) s some a → Did (activated_if test a.clock t) a some' b → Did (λ g. activated_if test s.clock t (each_activated test s.clock ts g)) s (some || some') b
 did_next test ts t s {a} {b} {some} {some'} first second =
-    let clock : a.clock ≡ s.clock = ap (λ (x : State). x.clock) first.after in
+    let clock : a.clock ≡ s.clock = ap (λ (x : State). x.clock) first.state in
     let then : Did (activated_if test s.clock t) a some' b = subst (λ c. Did (activated_if test c t) a some' b) clock second in
     did_both (each_activated test s.clock ts) (activated_if test s.clock t) (activated_if_steady test s.clock t) first then
 
@@ -153,8 +148,8 @@ did_quiet step s false did = did
 pub ticked_on : (s : State) {a b c : State} {some some' some'' : Bool} → Did (time_changed s.clock) s some a → Did (scheduled_read a.clock) a some' b → Did (interval_read b.clock) b some'' c → Did (ticked s.clock) s ((some || some') || some'') c
 unfolding ticked
 ticked_on s {a} {b} {c} {some} {some'} {some''} one two three =
-    let at_a : a.clock ≡ s.clock = ap (λ (x : State). x.clock) one.after in
-    let at_b : b.clock ≡ s.clock = ap (λ (x : State). x.clock) two.after ∙ at_a in
+    let at_a : a.clock ≡ s.clock = ap (λ (x : State). x.clock) one.state in
+    let at_b : b.clock ≡ s.clock = ap (λ (x : State). x.clock) two.state ∙ at_a in
     let read : Did (scheduled_read s.clock) a some' b = subst (λ k. Did (scheduled_read k) a some' b) at_a two in
     let ended : Did (interval_read s.clock) b some'' c = subst (λ k. Did (interval_read k) b some'' c) at_b three in
     did_both (λ g. scheduled_read s.clock (time_changed s.clock g)) (interval_read s.clock) (interval_read_steady s.clock)

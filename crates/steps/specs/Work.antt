@@ -63,6 +63,11 @@ any_of (e ∷ es) = true
 abbrev pub records_any : (Going → Going) → State → Bool
 records_any step s = any_of (step (going s)).entries
 
+-- What a step of the plain meter did in code: the state after it, and whether it recorded anything.
+pub record Did (step : Going → Going) (s : State) (some : Bool) (s' : State) : Type 0 where
+  pub state : s' ≡ after step s
+  pub any : some ≡ records_any step s
+
 -- Where nothing was recorded, nothing changed.
 abbrev pub Still : Bool → Head → Head → List Block → List Block → Type 0
 Still any h h' bs bs' = any ≡ false → (h' ≡ h) × (bs' ≡ bs)

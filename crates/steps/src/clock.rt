@@ -6,7 +6,7 @@ ghost use Rattle.model.specs.States.{on_head};
 ghost use Rattle.model.specs.Tables.{current_table};
 ghost use Rattle.model.specs.Calls.{scheduled_read, interval_read, ticked, mark_started, power_up};
 ghost use Rattle.model.specs.Tariffs.{is_daily, is_weekly, is_scheduled};
-ghost use Rattle.steps.specs.Work.{after, at_clock, Totals, Grows, Still, records_any};
+ghost use Rattle.steps.specs.Work.{after, at_clock, Totals, Grows, Did, Still};
 
 use crate::parts::{CALENDAR, load_start};
 use crate::work::Work;
@@ -61,8 +61,7 @@ impl<M: BlockMemory> Work<M> {
     #[tactic(auto, using(crate::proofs::Speaking::self_read_speaks))]
     fn read_if_scheduled(&mut self) -> bool
         requires room { Totals 4220000000 self.old.head }
-        ensures after { self.new ≡ after (scheduled_read self.old.clock) self.old }
-        ensures any { result ≡ records_any (scheduled_read self.old.clock) self.old }
+        ensures did { Did (scheduled_read self.old.clock) self.old result self.new }
         ensures counts { Grows 2 self.old.head self.new.head }
     {
         let due = is_read_due(&self.memory, self.clock);
@@ -76,8 +75,7 @@ impl<M: BlockMemory> Work<M> {
     #[tactic(auto, using(crate::proofs::Speaking::interval_speaks))]
     fn read_interval(&mut self) -> bool
         requires room { Totals 4220000000 self.old.head }
-        ensures after { self.new ≡ after (interval_read self.old.clock) self.old }
-        ensures any { result ≡ records_any (interval_read self.old.clock) self.old }
+        ensures did { Did (interval_read self.old.clock) self.old result self.new }
         ensures counts { Grows 1 self.old.head self.new.head }
     {
         let ends = self.clock % INTERVAL == 0;
@@ -90,8 +88,7 @@ impl<M: BlockMemory> Work<M> {
     // What a second brings that the clock has come to: rows that are due take force, then the scheduled self-read by the calendar then in force, then the interval record.
     fn pass_second(&mut self) -> bool
         requires room { Totals 4210000000 self.old.head }
-        ensures after { self.new ≡ after (ticked self.old.clock) self.old }
-        ensures any { result ≡ records_any (ticked self.old.clock) self.old }
+        ensures did { Did (ticked self.old.clock) self.old result self.new }
         ensures counts { Grows 12 self.old.head self.new.head }
         ensures still { Still result self.old.head self.new.head self.old.blocks self.new.blocks }
     {
@@ -105,8 +102,7 @@ impl<M: BlockMemory> Work<M> {
     pub fn tick_to(&mut self, second: u32) -> bool
         requires clock { second < seconds_in_all }
         requires room { Totals 4210000000 self.old.head }
-        ensures after { self.new ≡ after (ticked second) (at_clock second self.old) }
-        ensures any { result ≡ records_any (ticked second) self.old }
+        ensures did { Did (ticked second) (at_clock second self.old) result self.new }
         ensures counts { Grows 12 self.old.head self.new.head }
         ensures still { Still result self.old.head self.new.head self.old.blocks self.new.blocks }
     {

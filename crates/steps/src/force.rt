@@ -4,7 +4,7 @@ ghost use Rattle.pending.specs.Tables.{all_tables};
 ghost use Rattle.pending.specs.Rows.{is_due, is_waiting};
 ghost use Rattle.model.specs.States.{on_head, on_blocks};
 ghost use Rattle.model.specs.Steps.{brought_in, row_spent, activated, activated_if, each_activated, time_changed};
-ghost use Rattle.steps.specs.Work.{after, Totals, Grows, records_any, forced, Computes};
+ghost use Rattle.steps.specs.Work.{after, Totals, Grows, Did, forced, Computes};
 
 use crate::parts::{CALENDAR, load_start, store_start};
 use crate::work::Work;
@@ -56,8 +56,7 @@ impl<M: BlockMemory> Work<M> {
     #[tactic(auto, unfolding(model::specs::Steps::activated), using(crate::proofs::Speaking::noted_speaks))]
     pub fn activate(&mut self, table: PendingTable) -> bool
         requires room { Totals 4250000000 self.old.head }
-        ensures after { self.new ≡ after (activated self.old.clock table) self.old }
-        ensures any { result ≡ records_any (activated self.old.clock table) self.old }
+        ensures did { Did (activated self.old.clock table) self.old result self.new }
         ensures counts { Grows 3 self.old.head self.new.head }
     {
         match self.head.rows[table.index()] {
@@ -72,8 +71,7 @@ impl<M: BlockMemory> Work<M> {
     // The same, said by a test of the row.
     pub fn activate_waiting(&mut self, table: PendingTable) -> bool
         requires room { Totals 4240000000 self.old.head }
-        ensures after { self.new ≡ after (activated_if is_waiting self.old.clock table) self.old }
-        ensures any { result ≡ records_any (activated_if is_waiting self.old.clock table) self.old }
+        ensures did { Did (activated_if is_waiting self.old.clock table) self.old result self.new }
         ensures counts { Grows 3 self.old.head self.new.head }
     {
         if self.head.rows[table.index()].is_waiting() {
@@ -87,10 +85,8 @@ impl<M: BlockMemory> Work<M> {
     fn activate_each<F: Fn(Row) -> bool>(&mut self, chooses: F) -> bool
         requires callable { F.IsAlwaysCallable chooses }
         requires room { Totals 4230000000 self.old.head }
-        ensures waiting { Computes (F.post chooses) is_waiting → self.new ≡ after (each_activated is_waiting self.old.clock all_tables) self.old }
-        ensures any_waiting { Computes (F.post chooses) is_waiting → result ≡ records_any (each_activated is_waiting self.old.clock all_tables) self.old }
-        ensures due { Computes (F.post chooses) (λ row. is_due row self.old.clock) → self.new ≡ after (time_changed self.old.clock) self.old }
-        ensures any_due { Computes (F.post chooses) (λ row. is_due row self.old.clock) → result ≡ records_any (time_changed self.old.clock) self.old }
+        ensures waiting { Computes (F.post chooses) is_waiting → Did (each_activated is_waiting self.old.clock all_tables) self.old result self.new }
+        ensures due { Computes (F.post chooses) (λ row. is_due row self.old.clock) → Did (time_changed self.old.clock) self.old result self.new }
         ensures counts { Grows 9 self.old.head self.new.head }
     {
         let mut any = false;
@@ -105,8 +101,7 @@ impl<M: BlockMemory> Work<M> {
     // Every row that waits takes force, in directory order.
     pub fn activate_all(&mut self) -> bool
         requires room { Totals 4230000000 self.old.head }
-        ensures after { self.new ≡ after (each_activated is_waiting self.old.clock all_tables) self.old }
-        ensures any { result ≡ records_any (each_activated is_waiting self.old.clock all_tables) self.old }
+        ensures did { Did (each_activated is_waiting self.old.clock all_tables) self.old result self.new }
         ensures counts { Grows 9 self.old.head self.new.head }
     {
         self.activate_each(|row| row.is_waiting())
@@ -115,8 +110,7 @@ impl<M: BlockMemory> Work<M> {
     // A change of time: every row that is due takes force, in directory order. Whether anything was recorded.
     pub fn change_time(&mut self) -> bool
         requires room { Totals 4230000000 self.old.head }
-        ensures after { self.new ≡ after (time_changed self.old.clock) self.old }
-        ensures any { result ≡ records_any (time_changed self.old.clock) self.old }
+        ensures did { Did (time_changed self.old.clock) self.old result self.new }
         ensures counts { Grows 9 self.old.head self.new.head }
     {
         let clock = self.clock;

@@ -20,7 +20,7 @@ loop-table-preserved g c =
           let tested : c.chooses.result ≡ test (row_of table a.head) = computes _ _ c.chooses.ensures ∙ ap test row in
           let before = c.loop-table.invariant.0 test computes in
           elim c.if-chooses.branch [
-            | then-chooses w ↦ rw (w.self-is, w.any-is) (did_more test i Calendar s (omega arith) before (did_chosen test table a (sym tested ∙ w.if-chooses.true) (record { after = w.activate-any.ensures.after; any = w.activate-any.ensures.any })))
+            | then-chooses w ↦ rw (w.self-is, w.any-is) (did_more test i Calendar s (omega arith) before (did_chosen test table a (sym tested ∙ w.if-chooses.true) w.activate-any.ensures.did))
             | else-chooses w ↦ rw (w.self-is, w.any-is) (did_quiet _ s c.loop-table.any (did_more test i Calendar s (omega arith) before (did_passed test table a (sym tested ∙ w.if-chooses.false))))
           ],
       elim c.if-chooses.branch [ then-chooses w ↦ search rules | else-chooses w ↦ search rules ],
@@ -32,9 +32,7 @@ unfolding time_changed
 returns g c =
     let all : c.loop-table.table-index ≡ 3 = omega arith in
     record {
-      waiting = λ computes. (rw all at (c.loop-table.invariant.0 is_waiting computes)).after;
-      any_waiting = λ computes. (rw all at (c.loop-table.invariant.0 is_waiting computes)).any;
-      due = λ computes. (rw all at (c.loop-table.invariant.0 (λ row. is_due row c.args.self.now.clock) computes)).after;
-      any_due = λ computes. (rw all at (c.loop-table.invariant.0 (λ row. is_due row c.args.self.now.clock) computes)).any;
+      waiting = λ computes. rw all at (c.loop-table.invariant.0 is_waiting computes);
+      due = λ computes. rw all at (c.loop-table.invariant.0 (λ row. is_due row c.args.self.now.clock) computes);
       counts = search rules;
     }

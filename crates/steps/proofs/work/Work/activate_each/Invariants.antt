@@ -2,8 +2,7 @@ use Rattle.std.proofs.Common.{◌*◌, Bool, take}
 use Rattle.pending.specs.declared.row.Row.{Row}
 use Rattle.pending.specs.Tables.{all_tables}
 use Rattle.model.specs.Steps.{each_activated}
-use Rattle.steps.specs.Work.{Grows, Computes}
-use Rattle.steps.proofs.Steady.{Did}
+use Rattle.steps.specs.Work.{Grows, Did, Computes}
 use Rattle.steps.proofs.work.Work.activate_each.Given as goal
 
 abbrev pub invariant-loop-table : goal.invariant-loop-table

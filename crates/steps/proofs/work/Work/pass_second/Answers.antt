@@ -12,16 +12,11 @@ returns g c =
     let one = c.change_time-activated.ensures in
     let two = c.read_if_scheduled-scheduled.ensures in
     let three = c.read_interval-interval.ensures in
-    let all =
-    ticked_on s
-    (record { after = one.after; any = one.any })
-    (record { after = two.after; any = two.any })
-    (record { after = three.after; any = three.any }) in
+    let all = ticked_on s one.did two.did three.did in
     record {
-      after = all.after;
-      any = all.any;
+      did = all;
       counts = grown_on (grown_on one.counts two.counts) three.counts;
       still = λ none.
           let same = silent_tick s.clock (going s) (sym all.any ∙ none) in
-          (ap (λ (x : State). x.head) all.after ∙ ap (λ (x : Going). x.head) same, ap (λ (x : State). x.blocks) all.after ∙ ap (λ (x : Going). x.blocks) same);
+          (ap (λ (x : State). x.head) all.state ∙ ap (λ (x : Going). x.head) same, ap (λ (x : State). x.blocks) all.state ∙ ap (λ (x : Going). x.blocks) same);
     }
