@@ -33,7 +33,6 @@ fn check_right(table: PendingTable, content: &[u8]) -> Result<(), ServiceFault>
 }
 
 // The plan of the six trigger bytes at the front of a staging.
-#[tactic(auto, using(crate::proofs::Contents::take_six))]
 fn plan_in(content: &[u8]) -> Option<Plan>
     requires { 6 ≤ length content.now }
     ensures { result ≡ plan_of (take 6 content.now) }
