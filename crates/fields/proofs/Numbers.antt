@@ -2,7 +2,7 @@
 use Rattle.std.proofs.Common.{◌≡◌, ℕ, zero, suc, ◌+◌, ◌/◌, ◌%◌, ◌^◌, ◌<◌, ◌≤◌, List, [], ◌∷◌, length, get_or, take, refl, ap, ◌∙◌, arith}
 use Rattle.std.proofs.lemmas.List.{drop_more}
 use Rattle.fields.specs.Orders.{le_back}
-use Rattle.fields.specs.Words.{part, le_value, le_bytes, be_bytes}
+use Rattle.fields.specs.Words.{part, le_value, le_bytes}
 
 pub length_le_bytes : (w v : ℕ) → length (le_bytes w v) ≡ w
 length_le_bytes zero v = refl
@@ -11,15 +11,9 @@ length_le_bytes (suc w) v = ap suc (length_le_bytes w (v / 256))
 pub le_value_bytes : (w v : ℕ) → v < 256 ^ w → le_value (le_bytes w v) ≡ v
 le_value_bytes w v h = le_back w v h
 
--- what `to_le_bytes` and `to_be_bytes` of 32 bits give
+-- what `to_le_bytes` of 32 bits gives
 pub four_bytes : (v : ℕ) → v % 256 ∷ (v / 256 % 256 ∷ (v / 65536 % 256 ∷ (v / 16777216 % 256 ∷ []))) ≡ le_bytes 4 v
 four_bytes v =
-    let a : v / 65536 ≡ v / 256 / 256 = omega arith in
-    let b : v / 16777216 ≡ v / 256 / 256 / 256 = omega arith in
-    rw (a, b)
-
-pub four_bytes_big : (v : ℕ) → v / 16777216 % 256 ∷ (v / 65536 % 256 ∷ (v / 256 % 256 ∷ (v % 256 ∷ []))) ≡ be_bytes 4 v
-four_bytes_big v =
     let a : v / 65536 ≡ v / 256 / 256 = omega arith in
     let b : v / 16777216 ≡ v / 256 / 256 / 256 = omega arith in
     rw (a, b)

@@ -92,6 +92,7 @@ impl<K: Run> BlockMemory for Image<'_, K> {
         K::lowest_corrupt(self.bytes, below)
     }
 
+    // The test of the size stands here and in `write`: as a function, with `?`, it left the clauses of `write` open.
     fn read(&self, block: u32, content: &mut [u8; CONTENT]) -> Result<(), MemoryFault> {
         let size = self.size();
         if block >= size {
