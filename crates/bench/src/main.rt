@@ -22,6 +22,7 @@ fn run(
     let mut session = Session::Empty;
     let mut line = Vec::new(heap);
     let mut answers = Vec::new(heap);
+    // Input may go on for ever, and a loop is proved to end: so it has a count.
     for _ in 0..u64::MAX {
         line.clear();
         if input.read_until(b'\n', &mut line)? == 0 {

@@ -30,7 +30,7 @@ fn write_marked(out: &mut Vec<u8>, number: u32, width: usize, mark: u8) -> Resul
     Ok(())
 }
 
-// Appends a date-time and its weekday.
+// Appends a date-time and its weekday. Each part has its width and its mark, so that a loop would want a table of them.
 pub fn write_date(out: &mut Vec<u8>, date: DateTime, weekday: u8) -> Result<(), AllocError>
     ensures { OnOk result (out.new.items ≡ date_after out.old.items date weekday) }
 {

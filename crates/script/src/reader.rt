@@ -71,6 +71,7 @@ fn read_write(heap: Global, line: &[u8]) -> Result<Command, Complaint>
     Ok(Command::On(ImageCommand::Blocks(BlockCommand::Write(block, bytes))))
 }
 
+// Six parts, each with a name of its own: a loop over an array would have to name them again.
 fn read_second(line: &[u8]) -> Result<Command, Complaint>
     ensures { Meets said_of result (second_said line.now) }
 {

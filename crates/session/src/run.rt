@@ -18,6 +18,7 @@ use text::number::NumberFault;
 // The most bytes that an image may have.
 const LIMIT: u32 = 16_777_216;
 
+// The functions of `image` take the bytes, and are no methods: with both loans in one body, of the bytes and of the memory in them, the proof did not close.
 impl HeldImage {
     fn size(&mut self) -> u32
         ensures value { result ≡ size_of self.old.make self.old.bytes.items }
@@ -49,8 +50,7 @@ fn new_image(heap: Global, make: Make, count: u32) -> Result<(HeldImage, u32), C
 fn moment(second: u32) -> Option<(DateTime, u8)>
     ensures { result ≡ moment_of second }
 {
-    let date = from_second(second)?;
-    Some((date, weekday_at(second)))
+    Some((from_second(second)?, weekday_at(second)))
 }
 
 impl Session {
