@@ -1,5 +1,5 @@
 -- What the code writes of each piece.
-use Rattle.std.proofs.Common.{◌≡◌, ℕ, ◌+◌, ◌*◌, ◌<◌, ◌≤◌, Bool, cond, ◌&&◌, List, [], ◌∷◌, ◌++◌, length, get_or, take, replicate, sym, refl, ap, ◌∙◌, arith}
+use Rattle.std.proofs.Common.{◌≡◌, ℕ, ◌+◌, ◌*◌, ◌<◌, ◌≤◌, Bool, ◌&&◌, List, [], ◌∷◌, ◌++◌, length, get_or, take, replicate, sym, refl, ap, ◌∙◌, arith}
 use Rattle.std.specs.List.{flat_map}
 use Rattle.std.proofs.lemmas.List.{length-append, append_assoc, append-nil, drop_all, take_more, flat_map_more}
 use Rattle.fields.specs.Words.{le_bytes}
@@ -37,13 +37,6 @@ row_written p d six four e f = ap (λ l. waiting_list l four) e ∙ ap (λ l. wa
 pub log_written : (l : LogHead) → patch 6 (le_bytes 2 l.unread) (patch 4 (le_bytes 2 l.held) (patch 0 (le_bytes 4 l.total) (replicate 8 0))) ≡ log_bytes l
 unfolding patch log_bytes
 log_written l = refl
-
-abbrev activation_list : ℕ → List ℕ → List ℕ
-activation_list h s = h ∷ get_or s 0 0 ∷ get_or s 1 0 ∷ get_or s 2 0 ∷ get_or s 3 0 ∷ []
-
-pub activation_written : (a : Activation) (h : ℕ) (four : List ℕ) → h ≡ cond a.happened 1 0 → four ≡ le_bytes 4 a.second → activation_list h four ≡ activation_bytes a
-unfolding activation_bytes
-activation_written a h four e f = ap (λ n. activation_list n four) e ∙ ap (λ l. activation_list (cond a.happened 1 0) l) f
 
 -- the seven pieces of a whole block
 whole_patch : (new old : List ℕ) → length new ≡ length old → patch 0 new old ≡ new

@@ -37,6 +37,7 @@ fn zero_front(bytes: &mut [u8], count: usize)
 }
 
 // The check of the bytes that stand in an answer.
+#[tactic(auto, using(crate::proofs::Seals::whole_answer, crate::proofs::Seals::length_part))]
 fn check_of(answer: &[u8], count: u16) -> u8
     requires { count + 4 ≤ length answer.now }
     ensures check { result ≡ check_byte (part count 3 answer.now) }

@@ -45,6 +45,7 @@ impl<'a> Reader<'a> {
         }
     }
 
+    #[tactic(auto, using(fields::proofs::Numbers::part_2), unfolding(fields::specs::Words::big_word))]
     pub(crate) fn next16(&mut self) -> Result<u16, ServiceFault>
         ensures bytes { self.new.bytes.now ≡ self.old.bytes.now }
         ensures there { IfOk result (λ n. (n ≡ big_word 2 self.old.at self.old.bytes.now) × (self.new.at ≡ self.old.at + 2)) }
@@ -53,6 +54,7 @@ impl<'a> Reader<'a> {
         Ok(u16::from_be_bytes(self.next::<2>()?))
     }
 
+    #[tactic(auto, using(crate::proofs::Three::part_3), unfolding(fields::specs::Words::big_word))]
     pub(crate) fn next24(&mut self) -> Result<u32, ServiceFault>
         ensures bytes { self.new.bytes.now ≡ self.old.bytes.now }
         ensures there { IfOk result (λ n. (n ≡ big_word 3 self.old.at self.old.bytes.now) × (self.new.at ≡ self.old.at + 3)) }
