@@ -58,7 +58,14 @@ impl<M: BlockMemory> Readout<'_, M> {
     }
 
     // The proof needs a file, which a public function has not: so there are two.
-    fn seal_part(&self, source: Source, from: usize, count: u16, answer: &mut [u8], work: &mut [u8; CONTENT])
+    fn seal_part(
+        &self,
+        source: Source,
+        from: usize,
+        count: u16,
+        answer: &mut [u8],
+        work: &mut [u8; CONTENT],
+    )
         requires inside { from + count ≤ shown_length source }
         requires room { count + 4 ≤ length answer.old }
         ensures { answer.new ≡ overlay (answer_bytes (part count from (shown source self.now))) answer.old }
