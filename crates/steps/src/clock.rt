@@ -8,7 +8,7 @@ ghost use Rattle.model.specs.Calls.{scheduled_read, interval_read, ticked, mark_
 ghost use Rattle.model.specs.Tariffs.{is_daily, is_weekly, is_scheduled};
 ghost use Rattle.steps.specs.Work.{after, at_clock, Totals, Grows, Did, Still};
 
-use crate::parts::{CALENDAR, load_start};
+use crate::parts::{CALENDAR, start_of};
 use crate::work::Work;
 use access::ReadyMemory;
 use calendar::{split, weekday};
@@ -22,8 +22,7 @@ use records::status::Status;
 const INTERVAL: u32 = 900;
 
 // Whether the calendar asks for a self-read on a day: on every one, or on this weekday.
-fn is_read_day(calendar: &[u8], day: u32) -> bool
-    requires { length calendar.now ≡ 120 }
+fn is_read_day(calendar: &[u8; CALENDAR], day: u32) -> bool
     ensures { result ≡ (is_daily calendar.now || (is_weekly calendar.now && weekday_of day == slice_index calendar.now 1)) }
 {
     let flags = calendar[0];
@@ -32,8 +31,7 @@ fn is_read_day(calendar: &[u8], day: u32) -> bool
 
 // Whether the calendar asks for a self-read at a clock.
 #[tactic(auto, unfolding(model::specs::Tariffs::is_scheduled))]
-fn is_scheduled(calendar: &[u8], clock: u32) -> bool
-    requires { length calendar.now ≡ 120 }
+fn is_scheduled(calendar: &[u8; CALENDAR], clock: u32) -> bool
     ensures { result ≡ is_scheduled calendar.now clock }
 {
     let (day, rest) = split(clock);
@@ -51,8 +49,7 @@ fn is_read_due<M: BlockMemory>(memory: &ReadyMemory<M>, clock: u32) -> bool
     if clock % 60 != 0 {
         return false;
     }
-    let mut calendar = [0u8; CALENDAR];
-    load_start(memory, current_block(PendingTable::Calendar), &mut calendar);
+    let calendar = start_of(memory, current_block(PendingTable::Calendar));
     is_scheduled(&calendar, clock)
 }
 

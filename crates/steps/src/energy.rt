@@ -1,68 +1,60 @@
 // Energy and the tariff.
-ghost use Rattle.std.specs.Prelude.{◌≡◌, length};
+ghost use Rattle.std.specs.Prelude.{◌≡◌, ◌↔◌, true, false, IsNone, IfSome};
+ghost use Rattle.numbers.specs.Names.{tier_number};
 ghost use Rattle.model.specs.Calls.{tier_at, feeding};
 ghost use Rattle.model.specs.Tariffs.{is_tier, active_tier, fed};
 ghost use Rattle.steps.specs.Work.{after, Grows};
 
-use crate::parts::{CALENDAR, OVERRIDE, load_start};
+use crate::parts::{CALENDAR, OVERRIDE, start_of};
 use crate::work::Work;
 use access::ReadyMemory;
 use calendar::split;
 use directory::staged::current_block;
 use memory::memory::BlockMemory;
+use numbers::tier::Tier;
 use pending::table::PendingTable;
 use records::registers::Registers;
 
-fn is_tier(tier: u8) -> bool
-    ensures { result ≡ is_tier tier }
+// The tier that a byte names, if it names one.
+fn tier_of(byte: u8) -> Option<Tier>
+    ensures none { IsNone result ↔ (is_tier byte ≡ false) }
+    ensures some { IfSome result (λ tier. (is_tier byte ≡ true) × (tier_number tier ≡ byte)) }
 {
-    1 <= tier && tier <= 4
+    Tier::try_from(byte).ok()
 }
 
-// The override's tier if it has one, else the hour's if that is one, else 1.
-fn active_tier(overriding: &[u8], calendar: &[u8], clock: u32) -> u8
-    requires overriding { length overriding.now ≡ 16 }
-    requires calendar { length calendar.now ≡ 120 }
-    ensures { result ≡ active_tier overriding.now calendar.now clock }
+// The override's tier if it has one, else the hour's if that is one, else the first.
+fn active_tier(overriding: &[u8; OVERRIDE], calendar: &[u8; CALENDAR], clock: u32) -> Tier
+    ensures { tier_number result ≡ active_tier overriding.now calendar.now clock }
 {
     let (_, rest) = split(clock);
-    let tier = overriding[0];
-    let hour_tier = calendar[4 + (rest / 3600) as usize];
-    if is_tier(tier) {
-        tier
-    } else if is_tier(hour_tier) {
-        hour_tier
-    } else {
-        1
+    let hour = calendar[4 + (rest / 3600) as usize];
+    match (tier_of(overriding[0]), tier_of(hour)) {
+        (Some(tier), _) => tier,
+        (None, Some(tier)) => tier,
+        (None, None) => Tier::First,
     }
 }
 
 // The tier that counts at a clock, by the tables in force.
-fn tier_at<M: BlockMemory>(memory: &ReadyMemory<M>, clock: u32) -> u8
-    ensures { result ≡ tier_at clock (M.BlockMemory.blocks memory.now.memory) }
+fn tier_at<M: BlockMemory>(memory: &ReadyMemory<M>, clock: u32) -> Tier
+    ensures { tier_number result ≡ tier_at clock (M.BlockMemory.blocks memory.now.memory) }
 {
-    let mut overriding = [0u8; OVERRIDE];
-    load_start(
-        memory,
-        current_block(PendingTable::Override),
-        &mut overriding,
-    );
-    let mut calendar = [0u8; CALENDAR];
-    load_start(memory, current_block(PendingTable::Calendar), &mut calendar);
+    let overriding = start_of(memory, current_block(PendingTable::Override));
+    let calendar = start_of(memory, current_block(PendingTable::Calendar));
     active_tier(&overriding, &calendar, clock)
 }
 
 // Watt-hours for the total and one tier. Registers wrap.
-fn add_energy(registers: &mut Registers, tier: u8, wh: u32)
-    ensures { registers.new ≡ fed tier wh registers.old }
+fn add_energy(registers: &mut Registers, tier: Tier, wh: u32)
+    ensures { registers.new ≡ fed (tier_number tier) wh registers.old }
 {
     registers.total = registers.total.wrapping_add(wh);
     match tier {
-        1 => registers.tier1 = registers.tier1.wrapping_add(wh),
-        2 => registers.tier2 = registers.tier2.wrapping_add(wh),
-        3 => registers.tier3 = registers.tier3.wrapping_add(wh),
-        4 => registers.tier4 = registers.tier4.wrapping_add(wh),
-        _ => {}
+        Tier::First => registers.tier1 = registers.tier1.wrapping_add(wh),
+        Tier::Second => registers.tier2 = registers.tier2.wrapping_add(wh),
+        Tier::Third => registers.tier3 = registers.tier3.wrapping_add(wh),
+        Tier::Fourth => registers.tier4 = registers.tier4.wrapping_add(wh),
     }
 }
 

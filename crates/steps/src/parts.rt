@@ -5,7 +5,7 @@ ghost use Rattle.fields.specs.Patches.{patch};
 ghost use Rattle.fields.specs.Words.{part};
 
 use access::ReadyMemory;
-use fields::bytes::put_bytes;
+use fields::bytes::{array_at, put_bytes};
 use memory::memory::{BlockMemory, CONTENT};
 
 // The bytes of the calendar, the longest of the staged tables, and of the override.
@@ -13,7 +13,18 @@ pub(crate) const CALENDAR: usize = 120;
 
 pub(crate) const OVERRIDE: usize = 16;
 
-// The first bytes of a block, as many as `out` has room for.
+// The first bytes of a block.
+pub(crate) fn start_of<M: BlockMemory, const N: usize>(memory: &ReadyMemory<M>, block: u32) -> [u8; N]
+    requires below { block < needed }
+    requires short { N ≤ 510 }
+    ensures { result ≡ part N 0 (content_of (M.BlockMemory.blocks memory.now.memory) block) }
+{
+    let mut content = [0u8; CONTENT];
+    memory.load(block, &mut content);
+    array_at(&content, 0)
+}
+
+// The same, as many as `out` has room for.
 pub(crate) fn load_start<M: BlockMemory>(memory: &ReadyMemory<M>, block: u32, out: &mut [u8])
     requires below { block < needed }
     requires short { length out.old ≤ 510 }
