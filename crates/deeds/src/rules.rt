@@ -4,12 +4,13 @@ ghost use Rattle.pending.specs.declared.table.PendingTable.TheVariants.{Calendar
 ghost use Rattle.directory.specs.Geometry.{staged_length};
 ghost use Rattle.model.specs.Tariffs.{is_tier, all_tiers, is_right};
 
+use numbers::tier::Tier;
 use pending::table::PendingTable;
 
 fn is_tier(byte: u8) -> bool
     ensures { result ≡ is_tier byte }
 {
-    1 <= byte && byte <= 4
+    Tier::try_from(byte).is_ok()
 }
 
 fn are_tiers(bytes: &[u8]) -> bool
