@@ -1,5 +1,6 @@
 pub mod Writing
 pub mod Bytes
+pub mod TriggerBytes
 pub mod RowLaws
 pub mod PieceLaws
 pub mod Cuts

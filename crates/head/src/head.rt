@@ -33,8 +33,7 @@ pub struct Head {
 
 // What a content of block 0 says. Any content says something.
 #[tactic(auto, using(crate::proofs::HeadLaws::laws), unfolding(crate::specs::Heads::rows_from, crate::specs::Heads::logs_from, crate::specs::Heads::activation_from, crate::specs::Heads::registers_from, crate::specs::Heads::status_from))]
-pub fn decode(content: &[u8]) -> Head
-    requires { length content.now ≡ block_length }
+pub fn decode(content: &[u8; layout::BLOCK_LENGTH]) -> Head
     ensures equation { result ≡ decode_head content.now }
     ensures laws { Laws }
 {
@@ -49,8 +48,7 @@ pub fn decode(content: &[u8]) -> Head
 
 // The content of block 0 that says so, in place of what was there.
 #[tactic(auto, using(crate::proofs::HeadLaws::laws, crate::proofs::Frames::frames))]
-pub fn encode(head: &Head, content: &mut [u8])
-    requires { length content.old ≡ block_length }
+pub fn encode(head: &Head, content: &mut [u8; layout::BLOCK_LENGTH])
     ensures equation { content.new ≡ encode_head head.now }
     ensures laws { Laws }
     ensures frames { Frames }
@@ -59,8 +57,7 @@ pub fn encode(head: &Head, content: &mut [u8])
 }
 
 // Whether a content is in order as block 0.
-pub fn in_order(content: &[u8]) -> bool
-    requires { length content.now ≡ block_length }
+pub fn in_order(content: &[u8; layout::BLOCK_LENGTH]) -> bool
     ensures { result ≡ in_order content.now }
 {
     is_in_order_as(layout::NUMBER, content)
