@@ -102,7 +102,7 @@ impl<K: Run> BlockMemory for Image<'_, K> {
     }
 
     fn write(&mut self, block: u32, content: &[u8; CONTENT]) -> Result<(), MemoryFault> {
-        let size = self.size();
+        let size = (*self).size();
         if block >= size {
             return Err(MemoryFault::TooSmall(size));
         }
