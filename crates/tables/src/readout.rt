@@ -9,6 +9,7 @@ use memory::memory::BlockMemory;
 use std::marker::Model;
 
 // The memory, what block 0 says, the clock, and the last response. The calendar has the clock, and the second of the last activation.
+#[derive(Drop)]
 pub struct Readout<'a, M: BlockMemory> {
     pub memory: &'a ReadyMemory<M>,
     pub head: &'a Head,
