@@ -1,11 +1,12 @@
 // Reads and writes that cannot fail, in a memory that was found ready for a meter.
 #![tactic(auto)]
 
-ghost use Rattle.std.specs.Prelude.{◌≡◌, ◌<◌, length, Ok, Err, OnOk, MatchResult};
+ghost use Rattle.std.specs.Prelude.{⊤, ◌≡◌, ◌<◌, length, Ok, Err, OnOk, MatchResult};
 ghost use Rattle.access.specs.Ready.{needed, Ready, content_of, stored, ready_verdict, size_verdict};
 
 use memory::fault::MemoryFault;
 use memory::memory::{BlockMemory, CONTENT};
+use std::alloc::AllocError;
 
 // How many blocks a meter needs.
 pub const NEEDED: u32 = 27;
@@ -54,6 +55,43 @@ pub fn store<M: BlockMemory>(memory: &mut M, block: u32, content: &[u8; CONTENT]
     let _ = memory.write(block, content);
 }
 
+// A ready memory that is only read.
+pub struct ReadyRef<'a, M: BlockMemory> {
+    pub memory: &'a M,
+    pub ghost ready: { Ready (M.BlockMemory.blocks memory.now) },
+}
+
+// By hand, since no derive goes over a ghost field.
+impl<M: BlockMemory> Clone for ReadyRef<'_, M> {
+    ghost is_clone = { λ a b. b.memory.now ≡ a.memory.now };
+
+    ghost is_infallible = { λ _. ⊤ };
+
+    fn clone(&self) -> Result<Self, AllocError> {
+        Ok(*self)
+    }
+}
+
+impl<M: BlockMemory> Copy for ReadyRef<'_, M> {}
+
+impl<'a, M: BlockMemory> ReadyRef<'a, M> {
+    // What a check found ready.
+    pub fn new(found: &'a M) -> ReadyRef<'a, M>
+        requires { Ready (M.BlockMemory.blocks found.now) }
+        ensures { result.memory.now ≡ found.now }
+    {
+        ReadyRef { memory: found }
+    }
+
+    // The content of a block, into a buffer.
+    pub fn load(self, block: u32, content: &mut [u8; CONTENT])
+        requires { block < needed }
+        ensures content { content.new ≡ content_of (M.BlockMemory.blocks self.entry.memory.now) block }
+    {
+        load(self.memory, block, content);
+    }
+}
+
 // A memory that was found ready, and is from then on.
 pub struct ReadyMemory<M: BlockMemory> {
     pub memory: M,
@@ -86,6 +124,15 @@ impl<M: BlockMemory> ReadyMemory<M> {
     {
         let ReadyMemory { memory } = self;
         memory
+    }
+
+    // The same memory, only read.
+    pub fn as_ref(&self) -> ReadyRef<'_, M>
+        ensures { result.memory.now ≡ self.now.memory }
+    {
+        ReadyRef {
+            memory: &self.memory,
+        }
     }
 
     // The content of a block, into a buffer.
