@@ -10,7 +10,7 @@ ghost use Rattle.steps.specs.Work.{after, at_clock, Totals, Grows, Did, Still};
 
 use crate::parts::{CALENDAR, start_of};
 use crate::work::Work;
-use access::ReadyMemory;
+use access::ReadyRef;
 use calendar::{split, weekday};
 use directory::staged::current_block;
 use memory::memory::BlockMemory;
@@ -43,8 +43,8 @@ fn is_scheduled(calendar: &[u8; CALENDAR], clock: u32) -> bool
 
 // Whether the calendar in force does. Its block is read at second 0 of a minute only.
 #[tactic(auto, unfolding(model::specs::Tariffs::is_scheduled))]
-fn is_read_due<M: BlockMemory>(memory: &ReadyMemory<M>, clock: u32) -> bool
-    ensures { result ≡ is_scheduled (current_table Calendar (M.BlockMemory.blocks memory.now.memory)) clock }
+fn is_read_due<M: BlockMemory>(memory: ReadyRef<'_, M>, clock: u32) -> bool
+    ensures { result ≡ is_scheduled (current_table Calendar (M.BlockMemory.blocks memory.entry.memory.now)) clock }
 {
     if clock % 60 != 0 {
         return false;
@@ -61,7 +61,7 @@ impl<M: BlockMemory> Work<M> {
         ensures did { Did (scheduled_read self.old.clock) self.old result self.new }
         ensures counts { Grows 2 self.old.head self.new.head }
     {
-        let due = is_read_due(&self.memory, self.clock);
+        let due = is_read_due(self.memory.as_ref(), self.clock);
         if due {
             self.take_self_read();
         }

@@ -6,7 +6,7 @@ ghost use Rattle.model.specs.States.{log_of};
 ghost use Rattle.model.specs.Calls.{limit_verdict, log_names};
 ghost use Rattle.steps.specs.Work.{Totals};
 
-use access::ReadyMemory;
+use access::{ReadyMemory, ReadyRef};
 use head::head::{Head, decode, encode};
 use memory::memory::{BlockMemory, CONTENT};
 use model::log_limit;
@@ -14,8 +14,8 @@ use numbers::log::LogName;
 use refusals::fault::MeterFault;
 
 // What block 0 says.
-pub fn load_head<M: BlockMemory>(memory: &ReadyMemory<M>) -> Head
-    ensures { result ≡ decode_head (content_of (M.BlockMemory.blocks memory.now.memory) 0) }
+pub fn load_head<M: BlockMemory>(memory: ReadyRef<'_, M>) -> Head
+    ensures { result ≡ decode_head (content_of (M.BlockMemory.blocks memory.entry.memory.now) 0) }
 {
     let mut content = [0u8; CONTENT];
     memory.load(0, &mut content);

@@ -3,13 +3,13 @@ ghost use Rattle.std.specs.Prelude.{◌≡◌, ◌↔◌, true, false, IsNone, I
 ghost use Rattle.numbers.specs.Names.{tier_number};
 ghost use Rattle.model.specs.Calls.{tier_at, feeding};
 ghost use Rattle.model.specs.Tariffs.{is_tier, active_tier, fed};
-ghost use Rattle.steps.specs.Work.{after, Grows};
+ghost use Rattle.steps.specs.Work.{working, Grows};
 
 use crate::parts::{CALENDAR, OVERRIDE, start_of};
-use crate::work::Work;
-use access::ReadyMemory;
+use access::ReadyRef;
 use calendar::split;
 use directory::staged::current_block;
+use head::head::Head;
 use memory::memory::BlockMemory;
 use numbers::tier::Tier;
 use pending::table::PendingTable;
@@ -37,8 +37,8 @@ fn active_tier(overriding: &[u8; OVERRIDE], calendar: &[u8; CALENDAR], clock: u3
 }
 
 // The tier that counts at a clock, by the tables in force.
-fn tier_at<M: BlockMemory>(memory: &ReadyMemory<M>, clock: u32) -> Tier
-    ensures { tier_number result ≡ tier_at clock (M.BlockMemory.blocks memory.now.memory) }
+fn tier_at<M: BlockMemory>(memory: ReadyRef<'_, M>, clock: u32) -> Tier
+    ensures { tier_number result ≡ tier_at clock (M.BlockMemory.blocks memory.entry.memory.now) }
 {
     let overriding = start_of(memory, current_block(PendingTable::Override));
     let calendar = start_of(memory, current_block(PendingTable::Calendar));
@@ -58,15 +58,12 @@ fn add_energy(registers: &mut Registers, tier: Tier, wh: u32)
     }
 }
 
-impl<M: BlockMemory> Work<M> {
-    // Watt-hours for the total and the active tier. The blocks stay.
-    #[tactic(auto, unfolding(model::specs::Calls::feeding))]
-    pub fn feed(&mut self, wh: u32)
-        ensures after { self.new ≡ after (feeding self.old.clock wh) self.old }
-        ensures blocks { self.new.blocks ≡ self.old.blocks }
-        ensures counts { Grows 0 self.old.head self.new.head }
-    {
-        let tier = tier_at(&self.memory, self.clock);
-        add_energy(&mut self.head.registers, tier, wh);
-    }
+// Watt-hours for the total and the active tier. The blocks stay.
+#[tactic(auto, unfolding(model::specs::Calls::feeding))]
+pub fn feed<M: BlockMemory>(memory: ReadyRef<'_, M>, head: &mut Head, clock: u32, wh: u32)
+    ensures head { head.new ≡ (feeding clock wh (working head.old (M.BlockMemory.blocks memory.entry.memory.now))).head }
+    ensures blocks { M.BlockMemory.blocks memory.entry.memory.now ≡ (feeding clock wh (working head.old (M.BlockMemory.blocks memory.entry.memory.now))).blocks }
+    ensures counts { Grows 0 head.old head.new }
+{
+    add_energy(&mut head.registers, tier_at(memory, clock), wh);
 }

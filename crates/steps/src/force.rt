@@ -22,7 +22,7 @@ impl<M: BlockMemory> Work<M> {
     {
         let mut room = [0u8; CALENDAR];
         let bytes = &mut room[0..staged_length(table) as usize];
-        load_start(&self.memory, pending_block(table), bytes);
+        load_start(self.memory.as_ref(), pending_block(table), bytes);
         store_start(&mut self.memory, current_block(table), bytes);
     }
 

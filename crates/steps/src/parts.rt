@@ -4,7 +4,7 @@ ghost use Rattle.access.specs.Ready.{needed, content_of, stored};
 ghost use Rattle.fields.specs.Patches.{patch};
 ghost use Rattle.fields.specs.Words.{part};
 
-use access::ReadyMemory;
+use access::{ReadyMemory, ReadyRef};
 use fields::bytes::{array_at, put_bytes};
 use memory::memory::{BlockMemory, CONTENT};
 
@@ -14,10 +14,10 @@ pub(crate) const CALENDAR: usize = 120;
 pub(crate) const OVERRIDE: usize = 16;
 
 // The first bytes of a block.
-pub(crate) fn start_of<M: BlockMemory, const N: usize>(memory: &ReadyMemory<M>, block: u32) -> [u8; N]
+pub(crate) fn start_of<M: BlockMemory, const N: usize>(memory: ReadyRef<'_, M>, block: u32) -> [u8; N]
     requires below { block < needed }
     requires short { N ≤ 510 }
-    ensures { result ≡ part N 0 (content_of (M.BlockMemory.blocks memory.now.memory) block) }
+    ensures { result ≡ part N 0 (content_of (M.BlockMemory.blocks memory.entry.memory.now) block) }
 {
     let mut content = [0u8; CONTENT];
     memory.load(block, &mut content);
@@ -25,10 +25,10 @@ pub(crate) fn start_of<M: BlockMemory, const N: usize>(memory: &ReadyMemory<M>, 
 }
 
 // The same, as many as `out` has room for.
-pub(crate) fn load_start<M: BlockMemory>(memory: &ReadyMemory<M>, block: u32, out: &mut [u8])
+pub(crate) fn load_start<M: BlockMemory>(memory: ReadyRef<'_, M>, block: u32, out: &mut [u8])
     requires below { block < needed }
     requires short { length out.old ≤ 510 }
-    ensures { out.new ≡ part (length out.old) 0 (content_of (M.BlockMemory.blocks memory.now.memory) block) }
+    ensures { out.new ≡ part (length out.old) 0 (content_of (M.BlockMemory.blocks memory.entry.memory.now) block) }
 {
     let mut content = [0u8; CONTENT];
     memory.load(block, &mut content);
