@@ -11,7 +11,7 @@ ghost use Rattle.deeds.specs.Deeds.{deed_of, Safe};
 
 use crate::deed::Deed;
 use crate::rules::is_right;
-use access::ReadyMemory;
+use access::ReadyRef;
 use directory::entry::Source;
 use directory::staged::{current_block, staged_length};
 use fields::bytes::put_bytes;
@@ -52,14 +52,14 @@ pub fn plan_due(content: &[u8], clock: u32) -> Option<(Plan, Due)>
 
 // Whether the table as a write would leave it is right.
 fn check_write<M: BlockMemory>(
-    memory: &ReadyMemory<M>,
+    memory: ReadyRef<'_, M>,
     table: PendingTable,
     from: usize,
     content: &[u8],
     work: &mut [u8; CONTENT],
 ) -> Result<(), ServiceFault>
     requires inside { from + length content.now ≤ staged_length table }
-    ensures { result ≡ ruled (is_right table (patch from content.now (current_table table (M.BlockMemory.blocks memory.now.memory)))) }
+    ensures { result ≡ ruled (is_right table (patch from content.now (current_table table (M.BlockMemory.blocks memory.entry.memory.now)))) }
 {
     memory.load(current_block(table), work);
     put_bytes(work, from, content);
@@ -76,13 +76,13 @@ fn check_staging(table: PendingTable, content: &[u8], clock: u32) -> Result<(), 
 
 // The proof needs a file for what is staged, which a public function has not: so there are two.
 fn check_rules<M: BlockMemory>(
-    memory: &ReadyMemory<M>,
+    memory: ReadyRef<'_, M>,
     deed: &Deed,
     clock: u32,
     work: &mut [u8; CONTENT],
 ) -> Result<(), ServiceFault>
     requires safe { Safe (deed_of deed.now) }
-    ensures { result ≡ content_verdict (deed_of deed.now) clock (M.BlockMemory.blocks memory.now.memory) }
+    ensures { result ≡ content_verdict (deed_of deed.now) clock (M.BlockMemory.blocks memory.entry.memory.now) }
 {
     match *deed {
         Deed::Read { .. } => Ok(()),
@@ -105,13 +105,13 @@ fn check_rules<M: BlockMemory>(
 
 // Whether what is to be written or staged keeps the rules of its table. The work buffer is as long as a block.
 pub fn check_content<M: BlockMemory>(
-    memory: &ReadyMemory<M>,
+    memory: ReadyRef<'_, M>,
     deed: &Deed,
     clock: u32,
     work: &mut [u8; CONTENT],
 ) -> Result<(), ServiceFault>
     requires safe { Safe (deed_of deed.now) }
-    ensures { result ≡ content_verdict (deed_of deed.now) clock (M.BlockMemory.blocks memory.now.memory) }
+    ensures { result ≡ content_verdict (deed_of deed.now) clock (M.BlockMemory.blocks memory.entry.memory.now) }
 {
     check_rules(memory, deed, clock, work)
 }

@@ -3,7 +3,7 @@ ghost use Rattle.std.specs.Prelude.{◌≡◌, ◌<◌};
 ghost use Rattle.calendar.specs.Calendar.{seconds_in_all};
 
 use crate::response::Response;
-use access::ReadyMemory;
+use access::ReadyRef;
 use head::head::Head;
 use memory::memory::BlockMemory;
 use std::marker::Model;
@@ -11,7 +11,7 @@ use std::marker::Model;
 // The memory, what block 0 says, the clock, and the last response. The calendar has the clock, and the second of the last activation.
 #[derive(Drop)]
 pub struct Readout<'a, M: BlockMemory> {
-    pub memory: &'a ReadyMemory<M>,
+    pub memory: ReadyRef<'a, M>,
     pub head: &'a Head,
     pub clock: u32,
     pub response: Option<Response>,
@@ -26,7 +26,7 @@ impl<'a, M: BlockMemory> Model for Readout<'a, M> {
 
     ghost use Rattle.tables.specs.Responses.{response_if};
 
-    ghost view = { λ r. record { clock = r.clock; response = response_if r.response; head = r.head.now; blocks = M.BlockMemory.blocks r.memory.now.memory } };
+    ghost view = { λ r. record { clock = r.clock; response = response_if r.response; head = r.head.now; blocks = M.BlockMemory.blocks r.memory.memory.now } };
 
     ghost invariant = { λ r. (r.clock < seconds_in_all) × (r.head.now.activation.second < seconds_in_all) };
 }
