@@ -4,7 +4,7 @@
 pub mod bare;
 pub mod checked;
 mod checksum;
-mod lent;
 pub mod fault;
 pub mod image;
+mod lent;
 pub mod memory;
