@@ -3,14 +3,20 @@ ghost use Rattle.std.specs.Prelude.{◌≡◌, ◌+◌, ◌<◌, ◌≤◌, [], 
 ghost use Rattle.fields.specs.Words.{part};
 ghost use Rattle.fields.specs.Patches.{patch, Replaces};
 
-// The bytes at a place, as an array.
+// The bytes from a place on, as many as the array has.
+pub fn chunk_at<const N: usize>(bytes: &[u8], at: usize) -> &[u8; N]
+    requires { at + N ≤ length bytes.now }
+    ensures { result.now ≡ part N at bytes.now }
+{
+    bytes[at..].first_chunk().unwrap()
+}
+
+// The same, copied.
 pub fn array_at<const N: usize>(bytes: &[u8], at: usize) -> [u8; N]
     requires { at + N ≤ length bytes.now }
     ensures { result ≡ part N at bytes.now }
 {
-    let mut array = [0; N];
-    array.copy_from_slice(&bytes[at..at + N]);
-    array
+    *chunk_at(bytes, at)
 }
 
 pub fn get8(bytes: &[u8], at: usize) -> u8

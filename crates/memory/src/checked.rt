@@ -12,7 +12,7 @@ use crate::checksum::checksum;
 use crate::fault::MemoryFault;
 use crate::image::{Image, Run, block_count};
 use crate::memory::CONTENT;
-use fields::bytes::{array_at, put_bytes};
+use fields::bytes::{array_at, chunk_at, put_bytes};
 use fields::order::Little;
 use fields::words::{get16, put16};
 
@@ -31,7 +31,7 @@ fn is_sound(bytes: &[u8], block: u32) -> bool
     ensures { slice_index_or (checked_blocks bytes.now) block corrupt ≡ cond result (sound (content_at bytes.now block)) corrupt }
 {
     let at = block as usize * RUN;
-    get16::<Little>(bytes, at + CONTENT) == checksum(block, &array_at(bytes, at))
+    get16::<Little>(bytes, at + CONTENT) == checksum(block, chunk_at(bytes, at))
 }
 
 // The lowest block below a number whose stored checksum is not that of its content.
