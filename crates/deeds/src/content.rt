@@ -75,7 +75,7 @@ fn check_staging(table: PendingTable, content: &[u8], clock: u32) -> Result<(), 
 }
 
 // Whether what is to be written or staged keeps the rules of its table.
-#[tactic(auto, using(crate::proofs::Contents::verdict_on_same))]
+#[tactic(auto, using(crate::proofs::Contents::staged))]
 pub fn check_content<M: BlockMemory>(
     memory: &ReadyMemory<M>,
     deed: &Deed,
