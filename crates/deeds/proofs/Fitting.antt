@@ -16,13 +16,14 @@ use Rattle.directory.specs.declared.entry.Source.{Source}
 use Rattle.directory.specs.declared.entry.Source.TheVariants as source
 use Rattle.directory.specs.declared.entry.TableEntry.{TableEntry}
 use Rattle.directory.specs.Geometry.{staged_length, current_block}
-use Rattle.directory.specs.Uses.{is_read, is_full_write, allows, least, count_verdict}
+use Rattle.directory.specs.Uses.{is_read, is_full_write, allows, least, count_verdict, table_for}
 use Rattle.model.specs.Requests.{Deed, reading, writing, answerable, write_all, fitted}
 use Rattle.model.proofs.Accepting.{then_ok}
 use Rattle.model.proofs.Outcomes.{never, ok_same}
 use Rattle.deeds.specs.declared.deed.Deed as code
 use Rattle.deeds.specs.Deeds.{deed_of, decided_as, shown_length, OwnBlock, SafeWrite, Safe, Suits, Usable}
 use Rattle.deeds.proofs.Contents.{staged_short}
+use Rattle.deeds.proofs.Listed.{found_usable}
 
 -- what only may be read is not written, and what only may be written whole is not read
 use_of_lem : {P : Type 0} (a b : Access) (s : Service) → a ≡ b → (allows b s ≡ true → P) → allows a s ≡ true → P
@@ -116,6 +117,9 @@ fitted_safe t (partial_write table offset bytes) d u h =
     let same : writing t x.0.from bytes ≡ d = ok_same x.2 in
     rw (← same) (part_safe t.source t x.0.from (length bytes) refl u.suits u.allowed (parted offset (length bytes) t.length x.0 x.1).0)
 
-pub safe_to_act : (t : TableEntry) (a : Ask) (r : Result code.Deed ServiceFault) → Usable (service_of a) t → decided_as r ≡ fitted t a → IfOk r (λ d. Safe (deed_of d))
-safe_to_act t a (Ok d) u h = fitted_safe t a (deed_of d) u (sym h)
-safe_to_act t a (Err e) u h = tt
+-- what is found for a request and fits it
+pub safe_to_act : (n : ℕ) (s : Service) (t : TableEntry) (a : Ask) (r : Result code.Deed ServiceFault) → ◌≡◌ {A = Result TableEntry ServiceFault} (Ok t) (table_for n s) → s ≡ service_of a → decided_as r ≡ fitted t a → IfOk r (λ d. Safe (deed_of d))
+safe_to_act n s t a (Ok d) f same h =
+    let found : Usable s t = found_usable n s (Ok t) f in
+    fitted_safe t a (deed_of d) (rw same at found) (sym h)
+safe_to_act n s t a (Err e) f same h = tt

@@ -1,10 +1,10 @@
 // From the bytes of a request to what it is to do.
 ghost use Rattle.std.specs.Prelude.{◌≡◌, IfOk};
-ghost use Rattle.request.specs.Asks.{ask_of, service_of};
+ghost use Rattle.request.specs.Asks.{ask_of};
 ghost use Rattle.request.specs.Parts.{part_verdict};
 ghost use Rattle.directory.specs.Uses.{table_for};
 ghost use Rattle.model.specs.Requests.{key_verdict, answerable, write_all, fitted, decided};
-ghost use Rattle.deeds.specs.Deeds.{deed_of, decided_as, Usable, Safe};
+ghost use Rattle.deeds.specs.Deeds.{deed_of, decided_as, Safe};
 
 use crate::deed::Deed;
 use directory::entry::{Source, TableEntry};
@@ -27,14 +27,6 @@ fn check_key(key: u8, request: &Request) -> Result<(), ServiceFault>
         (_, Key::Master) => Ok(()),
         (_, Key::Reader) => Err(ServiceFault::Clearance),
     }
-}
-
-// What is found is usable: a fact of the whole directory, whose proof needs a file.
-fn usable_table(number: u16, service: Service) -> Result<TableEntry, ServiceFault>
-    ensures entry { result ≡ table_for number service }
-    ensures usable { IfOk result (Usable service) }
-{
-    table_for(number, service)
 }
 
 // The deed of a read, if an answer has room for it.
@@ -104,22 +96,14 @@ fn fit<'a>(table: TableEntry, request: Request<'a>) -> Result<Deed<'a>, ServiceF
     }
 }
 
-// The same, with what acting on the deed leans on, whose proof needs a file.
-fn fit_safely<'a>(table: TableEntry, request: Request<'a>) -> Result<Deed<'a>, ServiceFault>
-    requires { Usable (service_of (ask_of request)) table }
-    ensures deed { decided_as result ≡ fitted table (ask_of request.entry) }
-    ensures safe { IfOk result (λ d. Safe (deed_of d)) }
-{
-    fit(table, request)
-}
-
 // What the bytes of a request ask to be done with a key, or the first refusal.
+#[tactic(auto, using(crate::proofs::Fitting::safe_to_act))]
 pub fn decide(key: u8, bytes: &[u8]) -> Result<Deed<'_>, ServiceFault>
     ensures deed { decided_as result ≡ decided key bytes.now }
     ensures safe { IfOk result (λ d. Safe (deed_of d)) }
 {
     let request = parse(bytes)?;
     check_key(key, &request)?;
-    let table = usable_table(request.table(), request.service())?;
-    fit_safely(table, request)
+    let table = table_for(request.table(), request.service())?;
+    fit(table, request)
 }

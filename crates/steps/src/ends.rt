@@ -47,7 +47,8 @@ pub fn check_totals(head: &Head) -> Result<(), MeterFault>
     ensures answer { result ≡ limit_verdict log_names head.now }
     ensures room { OnOk result (Totals 4000000000 head.now) }
 {
-    check_total(head, LogName::History)?;
-    check_total(head, LogName::SelfReads)?;
-    check_total(head, LogName::LoadProfile)
+    for name in LogName::ALL {
+        check_total(head, name)?;
+    }
+    Ok(())
 }

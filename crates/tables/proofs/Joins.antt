@@ -1,8 +1,11 @@
 -- A part of two lists that are joined.
-use Rattle.std.proofs.Common.{◌≡◌, ℕ, ◌+◌, ◌-◌, ◌≤◌, min, List, ◌++◌, length, ◌∙◌, arith, rules}
+use Rattle.std.proofs.Common.{◌≡◌, ℕ, ◌+◌, ◌-◌, ◌≤◌, min, List, ◌++◌, length, refl, ap, ◌∙◌, arith, rules}
 use borrow.Rule.Slice.PartMut.{put_mid, post_of}
 use Rattle.std.proofs.lemmas.List.{places, same_lists, length-append, length-take, length-drop, append-nil, take_at, drop_at, drop_all}
 use Rattle.fields.specs.Words.{part}
+use Rattle.fields.specs.Patches.{overlay}
+use Rattle.request.specs.Answers.{answer_bytes}
+use Rattle.request.proofs.Seals.{sealed_part}
 
 -- what is written over all that lies behind a front
 pub put_behind : (n : ℕ) (front back rest : List ℕ) → length front ≡ n → put_mid n (length (front ++ rest) - n) (front ++ rest) back ≡ front ++ back
@@ -27,3 +30,9 @@ joined_copied front back out a b from start count s c fits ea eb =
     let left : length (part (length (a ++ rest) - count) count (a ++ rest)) ≡ length out - count = rw (length-take, length-drop, length-append, length-drop, length-drop) (omega arith) in
     let second : b ≡ part (length out - count) (from - start) back = rw left at eb in
     put_behind count a b rest long ∙ rw (first, second) (append_parts front back from (length out) start count s c fits)
+
+-- what is read into its place in an answer, and sealed
+pub read_sealed : (n from : ℕ) (all out old answer : List ℕ) → n + 4 ≤ length old → out ≡ part (length (part (3 + n - 3) 3 old)) from all → answer ≡ overlay (answer_bytes (part n 3 (put_mid 3 (3 + n - 3) old out))) (put_mid 3 (3 + n - 3) old out) → length out ≡ n → answer ≡ overlay (answer_bytes (part n from all)) old
+read_sealed n from all out old answer fits read seal long =
+    let sized : length (part (3 + n - 3) 3 old) ≡ n = rw (length-take, length-drop) (omega arith) in
+    seal ∙ sealed_part n out old long fits ∙ ap (λ bytes. overlay (answer_bytes bytes) old) (read ∙ rw sized refl)

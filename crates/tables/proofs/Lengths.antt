@@ -23,16 +23,6 @@ use Rattle.request.specs.Asks.{Ask, full_read, partial_read, full_write, partial
 use Rattle.request.specs.Parts.{whole_part, part_verdict}
 use Rattle.tables.specs.Lengths.{shown_length, Shown, Answerable}
 
--- what starts a procedure shows nothing, and nothing can be asked of it
-pub none_asked : (out : List ℕ) (from : ℕ) (all : List ℕ) → length out ≡ 0 → out ≡ part (length out) from all
-none_asked [] from all none = refl
-none_asked (b ∷ out) from all none = absurd (omega arith)
-
-pub shows_none : (source : Source) (from n : ℕ) → source ≡ Initiate → from + n ≤ shown_length source → n ≡ 0
-shows_none source from n is inside =
-    let none : shown_length source ≡ 0 = rw is refl in
-    omega arith
-
 -- a found entry only starts procedures, or all its bytes are shown
 abbrev Starts : TableEntry → Type 0
 Starts t = (t.source ≡ Initiate) × (t.access ≡ access.FullWrite)

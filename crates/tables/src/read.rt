@@ -57,25 +57,8 @@ impl<M: BlockMemory> Readout<'_, M> {
         }
     }
 
-    // The proof needs a file, which a public function has not: so there are two.
-    fn seal_part(
-        &self,
-        source: Source,
-        from: usize,
-        count: u16,
-        answer: &mut [u8],
-        work: &mut [u8; CONTENT],
-    )
-        requires inside { from + count ≤ shown_length source }
-        requires room { count + 4 ≤ length answer.old }
-        ensures { answer.new ≡ overlay (answer_bytes (part count from (shown source self.now))) answer.old }
-    {
-        let end = 3 + count as usize;
-        self.read_part(source, from, &mut answer[3..end], work);
-        seal(answer, count);
-    }
-
     // The answer to a read of a part of a table. The bytes are read into their place in it.
+    #[tactic(auto, using(crate::proofs::Joins::read_sealed))]
     pub fn answer_part(
         &self,
         source: Source,
@@ -89,6 +72,8 @@ impl<M: BlockMemory> Readout<'_, M> {
         requires room { 1028 ≤ length answer.old }
         ensures bytes { answer.new ≡ overlay (answer_bytes (part count from (shown source self.now))) answer.old }
     {
-        self.seal_part(source, from, count, answer, work);
+        let end = 3 + count as usize;
+        self.read_part(source, from, &mut answer[3..end], work);
+        seal(answer, count);
     }
 }
