@@ -24,7 +24,7 @@ pub(crate) fn upper_digit(value: u8) -> u8
     lower_digit(value).to_ascii_uppercase()
 }
 
-// Turns the items from `start` on around.
+// Turns the items from `start` on around. Not in its caller: with the loans of the Vec and of its end in one body, the proof did not close.
 fn reverse_from(items: &mut [u8], start: usize)
     requires { start ≤ length items.old }
     ensures { items.new ≡ take start items.old ++ reverse (drop start items.old) }

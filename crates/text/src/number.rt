@@ -52,7 +52,7 @@ pub fn write_padded(out: &mut Vec<u8>, number: u32, width: usize) -> Result<(), 
     write_digits(out, u64::from(number), 10, width)
 }
 
-// Appends a number in decimal digits, with no zero in front.
+// Appends a number in decimal digits, with no zero in front: a caller writes no width, which `write_padded` alone would ask for.
 pub fn write_number(out: &mut Vec<u8>, number: u32) -> Result<(), AllocError>
     ensures text { OnOk result (out.new.items ≡ out.old.items ++ decimal_text 1 number) }
     ensures back { NumbersReadBack }

@@ -1,10 +1,7 @@
-use Rattle.std.proofs.Common.{refl, arith, rules}
+use Rattle.std.proofs.Common.{arith, rules}
 use Rattle.std.proofs.lemmas.List.{length-set}
 use Rattle.script.proofs.Dates.{read_more, read_none, read_all}
 use Rattle.script.proofs.reader.read_second.Goals as goal
-
-pub loop-i-init : goal.loop-i-init
-loop-i-init c = (refl, refl)
 
 pub returns-in_err-part : goal.returns-in_err-part
 returns-in_err-part c =
