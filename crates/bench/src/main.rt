@@ -19,7 +19,7 @@ fn run(
     mut input: impl BufRead + Drop,
     mut output: impl Write + Drop,
 ) -> io::Result<()> {
-    let mut session = Session::Empty;
+    let mut session = Session::new();
     let mut line = Vec::new(heap);
     let mut answers = Vec::new(heap);
     // Input may go on for ever, and a loop is proved to end: so it has a count.

@@ -20,7 +20,7 @@ pub enum Tail {
     Changed,
 }
 
-// The texts are bytes, and not a Display: the transcript is a Vec of bytes, to which nothing is displayed.
+// By hand, not by Display: `write!` to a Vec ends in an io::Error, not an AllocError, and its clause says nothing of the exact text.
 impl Tail {
     fn text(self) -> &'static [u8]
         ensures { result.now ≡ tail_text self }

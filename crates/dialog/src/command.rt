@@ -1,7 +1,7 @@
 // What a line of a script asks of a meter, and any command.
 use script::command::Command;
 
-// The first words of commands on a meter.
+// The first words of commands on a meter. An Option of them: only the word sends a line to the bench, and no complaint of its reading.
 #[derive(Clone, Copy)]
 pub enum MeterWord {
     Format,

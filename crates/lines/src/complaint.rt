@@ -3,8 +3,6 @@ ghost use Rattle.std.specs.Prelude.{◌≡◌, ℕ, List, [], ◌∷◌, ◌++�
 ghost use Rattle.lines.specs.declared.complaint.Complaint.TheVariants.{Number, Hex, NoMemory};
 
 use std::alloc::AllocError;
-use std::error::Error;
-use std::fmt;
 use text::hex::HexFault;
 use text::number::NumberFault;
 
@@ -55,7 +53,7 @@ impl From<AllocError> for Complaint {
 }
 
 impl Complaint {
-    // What is printed of it: a text that lies ready, so that the transcript takes it with no memory of its own besides.
+    // What is printed of it. Not Display: `write!` to a Vec ends in an io::Error, where want of memory is an AllocError here.
     fn words(self) -> &'static str {
         match self {
             Complaint::UnknownCommand => "no such command",
@@ -78,14 +76,6 @@ impl Complaint {
         }
     }
 }
-
-impl fmt::Display for Complaint {
-    fn fmt<W: fmt::Write>(&self, f: &mut fmt::Formatter<W>) -> fmt::Result {
-        f.write_str(self.words())
-    }
-}
-
-impl Error for Complaint {}
 
 // Appends the line that says why a line of the script was not carried out. Its words are free.
 pub fn write_complaint(out: &mut Vec<u8>, complaint: Complaint) -> Result<(), AllocError>

@@ -5,6 +5,7 @@ ghost use Rattle.script.specs.Answers.{verdict_after, content_after, lowest_afte
 use calendar::DateTime;
 use lines::writing::{write_date, write_numbered};
 use memory::fault::MemoryFault;
+use memory::memory::CONTENT;
 use std::alloc::AllocError;
 use text::digest::write_digest;
 use text::hex::write_hex;
@@ -17,7 +18,7 @@ pub enum Answer {
     Poked(u32),
     // What the memory said to a write of a block, and to a read.
     Write(u32, Result<(), MemoryFault>),
-    Block(u32, Result<[u8; 510], MemoryFault>),
+    Block(u32, Result<[u8; CONTENT], MemoryFault>),
     // The lowest corrupt block.
     Unsound(Option<u32>),
     Digest(u64),
@@ -42,7 +43,7 @@ fn write_verdict(
 fn write_content(
     out: &mut Vec<u8>,
     n: u32,
-    read: &Result<[u8; 510], MemoryFault>,
+    read: &Result<[u8; CONTENT], MemoryFault>,
 ) -> Result<(), AllocError>
     ensures { OnOk result (out.new.items ≡ content_after out.old.items n read.now) }
 {
@@ -64,7 +65,7 @@ fn write_lowest(out: &mut Vec<u8>, lowest: Option<u32>) -> Result<(), AllocError
     }
 }
 
-// Appends the text of an answer.
+// Appends the text of an answer. Not Display: `write!` to a Vec ends in an io::Error, not an AllocError, and says nothing of the text.
 fn write_text(out: &mut Vec<u8>, answer: &Answer) -> Result<(), AllocError>
     ensures { OnOk result (out.new.items ≡ answer_after out.old.items answer.now) }
 {

@@ -8,7 +8,7 @@ pub enum Make {
     Checked,
 }
 
-// The first words of commands.
+// The first words of commands. Named, then read: with arms that may fail in the one match, its default was tried and did not close.
 #[derive(Clone, Copy, PartialEq, Eq, Debug)]
 pub enum Keyword {
     Image,

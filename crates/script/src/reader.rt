@@ -71,25 +71,19 @@ fn read_write(heap: Global, line: &[u8]) -> Result<Command, Complaint>
     Ok(Command::On(ImageCommand::Blocks(BlockCommand::Write(block, bytes))))
 }
 
-// Six parts, each with a name of its own: a loop over an array would have to name them again.
+// Six numbers of one byte, the parts of a date-time.
 fn read_second(line: &[u8]) -> Result<Command, Complaint>
     ensures { Meets said_of result (second_said line.now) }
 {
-    let (year, rest) = byte(line)?;
-    let (month, rest) = byte(rest)?;
-    let (day, rest) = byte(rest)?;
-    let (hour, rest) = byte(rest)?;
-    let (minute, rest) = byte(rest)?;
-    let (second, rest) = byte(rest)?;
+    let mut parts = [0; 6];
+    let mut rest = line;
+    for i in 0..6 {
+        let (part, after) = byte(rest)?;
+        parts[i] = part;
+        rest = after;
+    }
     end(rest)?;
-    Ok(Command::Second(DateTime {
-        year,
-        month,
-        day,
-        hour,
-        minute,
-        second,
-    }))
+    Ok(Command::Second(DateTime::from(parts)))
 }
 
 // The command that a line asks for.

@@ -14,16 +14,23 @@ use Rattle.lines.specs.declared.complaint.Complaint.TheVariants.{OutsideImage, T
 use Rattle.script.specs.Commands.{Asked, poke, write, unsound, block, digest}
 use Rattle.session.specs.Images.{blocks_of, written_to, content_from, content_read}
 
+-- The answer to an overwriting, whatever the make, and the bytes then.
+abbrev pub poke_answer : List ℕ → ℕ → List ℕ → Result Answer Complaint
+poke_answer bytes offset given = cond (nat_lt (length bytes) (offset + length given)) (Err OutsideImage) (Ok (Poked (length given)))
+
+abbrev pub poked : List ℕ → ℕ → List ℕ → List ℕ
+poked bytes offset given = cond (nat_lt (length bytes) (offset + length given)) bytes (patch offset given bytes)
+
 -- The answer to what is asked of an image, and the image's bytes then.
 abbrev pub answer_on : Make → List ℕ → Asked → Result Answer Complaint
-answer_on make bytes (poke offset given) = cond (nat_lt (length bytes) (offset + length given)) (Err OutsideImage) (Ok (Poked (length given)))
+answer_on make bytes (poke offset given) = poke_answer bytes offset given
 answer_on make bytes (write n given) = cond (nat_lt 510 (length given)) (Err TooManyBytes) (Ok (Write n (write_verdict (blocks_of make bytes) n)))
 answer_on make bytes (unsound below) = Ok (Unsound (lowest_corrupt below (blocks_of make bytes)))
 answer_on make bytes (block n) = Ok (Block n (content_read (blocks_of make bytes) n))
 answer_on make bytes digest = Ok (Digest (digest_of bytes))
 
 abbrev pub bytes_after : Make → List ℕ → Asked → List ℕ
-bytes_after make bytes (poke offset given) = cond (nat_lt (length bytes) (offset + length given)) bytes (patch offset given bytes)
+bytes_after make bytes (poke offset given) = poked bytes offset given
 bytes_after make bytes (write n given) = cond (nat_lt 510 (length given)) bytes (written_to make bytes n (content_from given))
 bytes_after make bytes (unsound below) = bytes
 bytes_after make bytes (block n) = bytes

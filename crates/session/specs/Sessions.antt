@@ -13,7 +13,6 @@ use Rattle.lines.specs.Parts.{short_of_memory}
 use Rattle.script.specs.Commands.{Asked, Said, image, on, second, moment}
 use Rattle.session.specs.declared.held.HeldImage.{HeldImage}
 use Rattle.session.specs.declared.session.Session.{Session}
-use Rattle.session.specs.declared.session.Session.TheVariants.{Empty, Cold}
 use Rattle.session.specs.Images.{size_of}
 use Rattle.session.specs.Asking.{answer_on, bytes_after}
 
@@ -25,8 +24,7 @@ abbrev pub image_of : HeldImage → Make × List ℕ
 image_of held = (held.make, vec_items held.bytes)
 
 abbrev pub state_of : Session → State
-state_of Empty = None
-state_of (Cold held) = Some (image_of held)
+state_of s = option_map image_of s.image
 
 abbrev pub answer_in : State → Asked → Result Answer Complaint
 answer_in None asked = Err NoImage

@@ -1,8 +1,8 @@
 // What is asked of an image of either make that lies in some bytes.
 ghost use Rattle.std.specs.Prelude.{◌≡◌, ◌≤◌, length};
-ghost use Rattle.script.specs.Commands.{block_asked_of, asked_of, poke};
+ghost use Rattle.script.specs.Commands.{block_asked_of, asked_of};
 ghost use Rattle.session.specs.Images.{size_of, content_read};
-ghost use Rattle.session.specs.Asking.{answer_on, bytes_after, blocks_answer, BlocksAfter};
+ghost use Rattle.session.specs.Asking.{poke_answer, poked, answer_on, bytes_after, blocks_answer, BlocksAfter};
 
 use fields::bytes::put_bytes;
 use lines::complaint::Complaint;
@@ -65,10 +65,10 @@ fn ask_image(make: Make, bytes: &mut [u8], command: &BlockCommand) -> Result<Ans
     }
 }
 
-fn overwrite(make: Make, bytes: &mut [u8], offset: u32, given: &[u8]) -> Result<Answer, Complaint>
+fn overwrite(bytes: &mut [u8], offset: u32, given: &[u8]) -> Result<Answer, Complaint>
     requires { length bytes.old ≤ 16777216 }
-    ensures answer { result ≡ answer_on make bytes.old (poke offset given.now) }
-    ensures after { bytes.new ≡ bytes_after make bytes.old (poke offset given.now) }
+    ensures answer { result ≡ poke_answer bytes.old offset given.now }
+    ensures after { bytes.new ≡ poked bytes.old offset given.now }
 {
     let offset = offset as usize;
     if bytes.len() < given.len() || bytes.len() - given.len() < offset {
@@ -89,7 +89,7 @@ pub(crate) fn answer(
     ensures after { bytes.new ≡ bytes_after make bytes.old (asked_of command.now) }
 {
     match command {
-        ImageCommand::Poke(offset, given) => overwrite(make, bytes, *offset, given.as_slice()),
+        ImageCommand::Poke(offset, given) => overwrite(bytes, *offset, given.as_slice()),
         ImageCommand::Digest => Ok(Answer::Digest(digest(bytes))),
         ImageCommand::Blocks(asked) => ask_image(make, bytes, asked),
     }

@@ -58,16 +58,16 @@ impl Session {
         ensures { Performed (state_of self.old) (image make count) result (state_of self.new) }
     {
         let (held, size) = new_image(heap, make, count)?;
-        *self = Session::Cold(held);
+        self.image = Some(held);
         Ok(Answer::Image(size))
     }
 
     fn ask(&mut self, command: &ImageCommand) -> Result<Answer, Complaint>
         ensures { Performed (state_of self.old) (on (asked_of command.now)) result (state_of self.new) }
     {
-        match self {
-            Session::Empty => Err(Complaint::NoImage),
-            Session::Cold(held) => held.answer(command),
+        match &mut self.image {
+            None => Err(Complaint::NoImage),
+            Some(held) => held.answer(command),
         }
     }
 

@@ -1,8 +1,19 @@
-// A session has no image yet, or one. An enum of its own, and not an Option: a started meter is to be the next variant.
+// A session: an image, once a command made one.
+ghost use Rattle.std.specs.Prelude.{◌≡◌, None};
+ghost use Rattle.session.specs.Sessions.{state_of};
+
 use crate::held::HeldImage;
 
 #[derive(Drop)]
-pub enum Session {
-    Empty,
-    Cold(HeldImage),
+pub struct Session {
+    pub(crate) image: Option<HeldImage>,
+}
+
+impl Session {
+    // A session with no image.
+    pub fn new() -> Session
+        ensures { state_of result ≡ None }
+    {
+        Session { image: None }
+    }
 }

@@ -50,9 +50,6 @@ pub record Written (before after : List ℕ) (base width number missing rest : �
   pub is : after ≡ before ++ low
   pub whole : digits_text base missing rest ++ reverse low ≡ digits_text base width number
 
-pub written_none : (xs : List ℕ) (base width number : ℕ) → Written xs xs base width number width number
-written_none xs base width number = record { low = []; is = sym (append-nil xs); whole = append-nil (digits_text base width number) }
-
 pub written_more : {before after next : List ℕ} {base width number missing rest : ℕ} → 2 ≤ base → 0 < rest + missing → next ≡ after ++ lower_digit (rest % base) ∷ [] → Written before after base width number missing rest → Written before next base width number (missing - 1) (rest / base)
 written_more {before} {after} {next} {base} {width} {number} {missing} {rest} two some pushed w =
     let d = lower_digit (rest % base) ∷ [] in

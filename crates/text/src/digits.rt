@@ -24,7 +24,7 @@ pub(crate) fn upper_digit(value: u8) -> u8
     lower_digit(value).to_ascii_uppercase()
 }
 
-// Turns the items from `start` on around.
+// Turns the items from `start` on around. Not in its caller: with the loans of the Vec and of its end in one body, the proof did not close.
 fn reverse_from(items: &mut [u8], start: usize)
     requires { start ≤ length items.old }
     ensures { items.new ≡ take start items.old ++ reverse (drop start items.old) }
@@ -32,7 +32,7 @@ fn reverse_from(items: &mut [u8], start: usize)
     items[start..].reverse();
 }
 
-// Appends the digits of `number`, the highest first, at least `width` of them.
+// Appends the digits of `number`, the highest first, at least `width` of them. Not `write!`: its error is an io::Error, not an AllocError.
 pub(crate) fn write_digits(
     out: &mut Vec<u8>,
     number: u64,
@@ -45,6 +45,7 @@ pub(crate) fn write_digits(
     let start = out.len();
     let mut rest = number;
     let mut missing = width;
+    // No `for`: how many digits there are is known when the number is spent.
     while rest > 0 || missing > 0 {
         out.push(lower_digit((rest % u64::from(base)) as u8))?;
         rest /= u64::from(base);

@@ -43,7 +43,7 @@ pub fn read_number(word: &[u8], max: u32) -> Result<u32, NumberFault>
     }
 }
 
-// Appends a number in decimal digits, with zeros in front up to `width` digits.
+// Appends a number in decimal digits, with zeros in front up to `width` digits. Not `write!`: its error is an io::Error, not an AllocError.
 #[tactic(auto, using(crate::proofs::Reading::reads_back))]
 pub fn write_padded(out: &mut Vec<u8>, number: u32, width: usize) -> Result<(), AllocError>
     ensures text { OnOk result (out.new.items ≡ out.old.items ++ decimal_text width number) }
@@ -52,7 +52,7 @@ pub fn write_padded(out: &mut Vec<u8>, number: u32, width: usize) -> Result<(), 
     write_digits(out, u64::from(number), 10, width)
 }
 
-// Appends a number in decimal digits, with no zero in front.
+// Appends a number in decimal digits, with no zero in front: a caller writes no width, which `write_padded` alone would ask for.
 pub fn write_number(out: &mut Vec<u8>, number: u32) -> Result<(), AllocError>
     ensures text { OnOk result (out.new.items ≡ out.old.items ++ decimal_text 1 number) }
     ensures back { NumbersReadBack }

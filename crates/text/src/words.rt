@@ -9,7 +9,7 @@ use std::alloc::AllocError;
 pub(crate) fn is_blank(byte: u8) -> bool
     ensures { result ≡ blank byte }
 {
-    byte == b' ' || byte == b'\t'
+    matches!(byte, b' ' | b'\t')
 }
 
 // How many bytes at the front are blanks, or are none.
