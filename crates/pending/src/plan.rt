@@ -107,7 +107,7 @@ impl From<Plan> for [u8; 6] {
 
     #[tactic(auto, using(crate::proofs::PlanBytes::plan_laws))]
     fn from(plan: Plan) -> [u8; 6] {
-        let flag = if plan.self_read { 16 } else { 0 };
-        bytes_from(plan.trigger.kind() + flag, plan.trigger)
+        let first = plan.trigger.kind() + 16 * u8::from(plan.self_read);
+        bytes_from(first, plan.trigger)
     }
 }

@@ -8,9 +8,9 @@ use std::fmt;
 
 #[derive(Clone, Copy, PartialEq, Eq, Debug)]
 pub enum PendingTable {
-    Calendar,
-    Outputs,
-    Override,
+    Calendar = 54,
+    Outputs = 2053,
+    Override = 2095,
 }
 
 impl PendingTable {
@@ -39,11 +39,7 @@ impl From<PendingTable> for u16 {
     ghost from_gives = { IsNumberOf };
 
     fn from(table: PendingTable) -> u16 {
-        match table {
-            PendingTable::Calendar => 54,
-            PendingTable::Outputs => 2053,
-            PendingTable::Override => 2095,
-        }
+        table as u16
     }
 }
 

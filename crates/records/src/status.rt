@@ -17,9 +17,7 @@ impl From<Status> for u8 {
     ghost from_gives = { λ status byte. byte ≡ status_byte status };
 
     fn from(status: Status) -> u8 {
-        let started = if status.started { 1 } else { 0 };
-        let clock_set = if status.clock_set { 2 } else { 0 };
-        started + clock_set
+        u8::from(status.started) + 2 * u8::from(status.clock_set)
     }
 }
 
