@@ -14,7 +14,7 @@ pub struct Plan {
     pub self_read: bool,
 }
 
-// Six bytes that are no plan.
+// Six bytes that are no plan. An error type of this crate: there is no one number to tell.
 #[derive(Clone, Copy, PartialEq, Eq, Debug)]
 pub struct NoPlan;
 

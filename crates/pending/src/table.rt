@@ -26,6 +26,7 @@ impl PendingTable {
         ensures value { result ≡ table_index self }
         ensures listed { slice_index_or PendingTable.ALL result self ≡ self }
     {
+        // A match, as the numbers of the variants are the tables'.
         match self {
             PendingTable::Calendar => 0,
             PendingTable::Outputs => 1,
@@ -43,7 +44,7 @@ impl From<PendingTable> for u16 {
     }
 }
 
-// A number of no table that can be staged.
+// A number of no table that can be staged. An error type of this crate: it says that it is a table's.
 #[derive(Clone, Copy, PartialEq, Eq, Debug)]
 pub struct NotStaged(pub u16);
 

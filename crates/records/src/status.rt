@@ -21,7 +21,7 @@ impl From<Status> for u8 {
     }
 }
 
-// A byte in which an unused bit is set.
+// A byte in which an unused bit is set. An error type of this crate: it says what it is that has no such byte.
 #[derive(Clone, Copy, PartialEq, Eq, Debug)]
 pub struct NoStatus(pub u8);
 
