@@ -1,5 +1,5 @@
 -- The directory, and the table that a number names.
-use Rattle.std.specs.Prelude.{ℕ, ◌+◌, ◌-◌, ◌≤◌, cond, List, [], ◌∷◌, Some, None, Ok, Err, Option, Result, ◌==◌, nat_lt}
+use Rattle.std.specs.Prelude.{◌≡◌, ℕ, ◌+◌, ◌-◌, ◌≤◌, cond, List, [], ◌∷◌, Some, None, Ok, Err, Option, Result, ◌==◌, nat_lt}
 use Rattle.std.specs.List.{find}
 use Rattle.numbers.specs.declared.log.LogName.TheVariants.{History, SelfReads, LoadProfile}
 use Rattle.refusals.specs.declared.fault.ServiceFault.{ServiceFault}
@@ -49,6 +49,10 @@ room (Log log) = table_length (log_place log)
 
 abbrev pub Inside : TableEntry → Type 0
 Inside t = t.length ≤ room t.source
+
+-- What a table that was found by a number meets.
+abbrev pub FoundInside : ℕ → TableEntry → Type 0
+FoundInside n t = Inside t × (t.number ≡ n)
 
 abbrev pub lookup : List TableEntry → ℕ → Option TableEntry
 lookup ts n = find (λ t. t.number == n) ts

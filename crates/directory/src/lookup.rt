@@ -1,7 +1,7 @@
 // Tables by their numbers.
 ghost use Rattle.std.specs.Prelude.{◌≡◌, IfSome, IfOk};
 ghost use Rattle.std.specs.List.{AllByRecursion};
-ghost use Rattle.directory.specs.Tables.{directory, Inside, lookup, listed, twin_of, numbered, find_table};
+ghost use Rattle.directory.specs.Tables.{directory, Inside, FoundInside, lookup, listed, twin_of, numbered, find_table};
 ghost use Rattle.directory.specs.Lawful.{Lawful};
 
 use crate::entry::{Access, DIRECTORY, Source, TableEntry};
@@ -14,8 +14,7 @@ const TWIN_LENGTH: u16 = 6;
 
 fn find_listed(number: u16) -> Option<TableEntry>
     ensures entry { result ≡ listed number }
-    ensures inside { IfSome result Inside }
-    ensures named { IfSome result (λ t. t.number ≡ number) }
+    ensures found { IfSome result (FoundInside number) }
 {
     tables().iter().find(|row| row.number == number).copied()
 }
@@ -24,8 +23,7 @@ fn find_listed(number: u16) -> Option<TableEntry>
 fn twin(number: u16, entry: TableEntry) -> Option<TableEntry>
     requires { Inside entry }
     ensures entry { result ≡ twin_of number entry }
-    ensures inside { IfSome result Inside }
-    ensures named { IfSome result (λ t. t.number ≡ number) }
+    ensures found { IfSome result (FoundInside number) }
 {
     match entry.source {
         Source::Staged(table) => Some(TableEntry {
@@ -42,8 +40,7 @@ fn twin(number: u16, entry: TableEntry) -> Option<TableEntry>
 
 fn find_numbered(number: u16) -> Option<TableEntry>
     ensures entry { result ≡ numbered number }
-    ensures inside { IfSome result Inside }
-    ensures named { IfSome result (λ t. t.number ≡ number) }
+    ensures found { IfSome result (FoundInside number) }
 {
     if number < TWIN_NUMBER {
         return find_listed(number);
@@ -62,8 +59,7 @@ pub fn tables() -> [TableEntry; 12]
 // The table that has a number; a pending twin has one too.
 pub fn find(number: u16) -> Result<TableEntry, ServiceFault>
     ensures entry { result ≡ find_table number }
-    ensures inside { IfOk result Inside }
-    ensures named { IfOk result (λ t. t.number ≡ number) }
+    ensures found { IfOk result (FoundInside number) }
 {
     find_numbered(number).ok_or(ServiceFault::UnknownTable(number))
 }

@@ -7,6 +7,8 @@ ghost use Rattle.effects.specs.Alters.{Alters, WaitingLeft, BehindLeft, AsMany};
 ghost use Rattle.effects.specs.Reads.{Reads};
 ghost use Rattle.effects.specs.Writes.{Writes};
 
+use access::NEEDED;
+
 // The first block that no call alters.
 #[tactic(auto, using(crate::proofs::AlteredBlocks::alters, crate::proofs::LeftBlocks::waiting_left, crate::proofs::LeftBlocks::behind_left, crate::proofs::Numbering::as_many, crate::proofs::Reading::reads, crate::proofs::Writing::writes))]
 pub fn first_untouched() -> u32
@@ -18,5 +20,5 @@ pub fn first_untouched() -> u32
     ensures reads { Reads }
     ensures writes { Writes }
 {
-    27
+    NEEDED
 }

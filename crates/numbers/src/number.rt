@@ -5,7 +5,8 @@ ghost use Rattle.std.specs.Fmt.{decimal};
 use std::error::Error;
 use std::fmt;
 
-// A number that no name of a kind has.
+// A number that no name of a kind has. One error for the six kinds of this crate.
+// Each `try_from` is written out: it names its own variants, and a macro of ours may not write impls.
 #[derive(Clone, Copy, PartialEq, Eq, Debug)]
 pub struct UnknownNumber(pub u16);
 

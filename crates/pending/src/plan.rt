@@ -14,7 +14,7 @@ pub struct Plan {
     pub self_read: bool,
 }
 
-// Six bytes that are no plan.
+// Six bytes that are no plan. An error type of this crate: there is no one number to tell.
 #[derive(Clone, Copy, PartialEq, Eq, Debug)]
 pub struct NoPlan;
 
@@ -107,7 +107,7 @@ impl From<Plan> for [u8; 6] {
 
     #[tactic(auto, using(crate::proofs::PlanBytes::plan_laws))]
     fn from(plan: Plan) -> [u8; 6] {
-        let flag = if plan.self_read { 16 } else { 0 };
-        bytes_from(plan.trigger.kind() + flag, plan.trigger)
+        let first = plan.trigger.kind() + 16 * u8::from(plan.self_read);
+        bytes_from(first, plan.trigger)
     }
 }

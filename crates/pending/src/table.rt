@@ -8,9 +8,9 @@ use std::fmt;
 
 #[derive(Clone, Copy, PartialEq, Eq, Debug)]
 pub enum PendingTable {
-    Calendar,
-    Outputs,
-    Override,
+    Calendar = 54,
+    Outputs = 2053,
+    Override = 2095,
 }
 
 impl PendingTable {
@@ -26,6 +26,7 @@ impl PendingTable {
         ensures value { result ≡ table_index self }
         ensures listed { slice_index_or PendingTable.ALL result self ≡ self }
     {
+        // A match, as the numbers of the variants are the tables'.
         match self {
             PendingTable::Calendar => 0,
             PendingTable::Outputs => 1,
@@ -39,15 +40,11 @@ impl From<PendingTable> for u16 {
     ghost from_gives = { IsNumberOf };
 
     fn from(table: PendingTable) -> u16 {
-        match table {
-            PendingTable::Calendar => 54,
-            PendingTable::Outputs => 2053,
-            PendingTable::Override => 2095,
-        }
+        table as u16
     }
 }
 
-// A number of no table that can be staged.
+// A number of no table that can be staged. An error type of this crate: it says that it is a table's.
 #[derive(Clone, Copy, PartialEq, Eq, Debug)]
 pub struct NotStaged(pub u16);
 

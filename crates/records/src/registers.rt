@@ -1,4 +1,5 @@
 // The energy registers: the total, and one for each tier.
+// No array: each has its name, which says more than an index, so the five are written and read one by one.
 ghost use Rattle.std.specs.Prelude.{◌≡◌, ◌+◌, ◌≤◌, length};
 ghost use Rattle.records.specs.Layouts.{registers_at, IsWrittenAs};
 

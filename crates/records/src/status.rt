@@ -17,13 +17,11 @@ impl From<Status> for u8 {
     ghost from_gives = { λ status byte. byte ≡ status_byte status };
 
     fn from(status: Status) -> u8 {
-        let started = if status.started { 1 } else { 0 };
-        let clock_set = if status.clock_set { 2 } else { 0 };
-        started + clock_set
+        u8::from(status.started) + 2 * u8::from(status.clock_set)
     }
 }
 
-// A byte in which an unused bit is set.
+// A byte in which an unused bit is set. An error type of this crate: it says what it is that has no such byte.
 #[derive(Clone, Copy, PartialEq, Eq, Debug)]
 pub struct NoStatus(pub u8);
 

@@ -28,6 +28,7 @@ fn put_front(bytes: &mut [u8], new: &[u8])
     put_bytes(bytes, 0, new);
 }
 
+// Not in `wipe`, its one caller: it is proved of any count, and the prover would write 510 zeros out.
 #[tactic(auto, unfolding(crate::specs::Answers::zeroed, fields::specs::Patches::overlay))]
 fn zero_front(bytes: &mut [u8], count: usize)
     requires { count ≤ length bytes.old }
@@ -46,8 +47,8 @@ fn check_of(answer: &[u8], count: u16) -> u8
     0u8.wrapping_sub(byte_sum(&answer[3..3 + count as usize]))
 }
 
-#[tactic(auto, using(crate::proofs::Seals::enclosed))]
 // A code and a count before the bytes that stand in an answer, and a check after them.
+#[tactic(auto, using(crate::proofs::Seals::enclosed))]
 fn enclose(answer: &mut [u8], code: AnswerCode, count: u16, check: u8)
     requires { count + 4 ≤ length answer.old }
     ensures { answer.new ≡ overlay (code_number code ∷ (be_bytes 2 (length (part count 3 answer.old)) ++ (part count 3 answer.old ++ (check ∷ [])))) answer.old }

@@ -31,6 +31,7 @@ impl<'a> Reader<'a> {
         &bytes[self.at..]
     }
 
+    // Three alike contracts: each has its own number and width, and a definition would take those as arguments.
     fn next<const N: usize>(&mut self) -> Result<[u8; N], ServiceFault>
         ensures bytes { self.new.bytes.now ≡ self.old.bytes.now }
         ensures there { IfOk result (λ new. (self.old.at + N ≤ length self.old.bytes.now) × (new ≡ part N self.old.at self.old.bytes.now) × (self.new.at ≡ self.old.at + N)) }

@@ -52,6 +52,7 @@ impl Request<'_> {
     }
 }
 
+// Each says that the service byte is read: a reader's place is known to its caller, and a definition would only rename `≡ 1`.
 fn full_read(mut fields: Reader<'_>) -> Result<Request<'_>, ServiceFault>
     requires { fields.at ≡ 1 }
     ensures { asked result ≡ full_read_ask fields.entry.bytes.now }
@@ -101,6 +102,7 @@ fn partial_write(mut fields: Reader<'_>) -> Result<Request<'_>, ServiceFault>
     })
 }
 
+// Not in `parse`: that such a request is read right is proved from this equation, which no branch has by itself.
 fn by_service(bytes: &[u8]) -> Result<Request<'_>, ServiceFault>
     ensures { asked result ≡ ask_in bytes.now }
 {

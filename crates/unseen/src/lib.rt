@@ -5,6 +5,8 @@ ghost use Rattle.std.specs.Prelude.{◌≡◌};
 ghost use Rattle.access.specs.Ready.{needed};
 ghost use Rattle.unseen.specs.Unseen.{AnswersAlike, KeepsItsOwn, UnseenIsFree};
 
+use access::NEEDED;
+
 // The first block that no call reads or writes.
 #[tactic(auto, using(crate::proofs::Serving::answers_alike, crate::proofs::Serving::keeps_its_own, crate::proofs::Free::unseen_is_free))]
 pub fn first_unseen() -> u32
@@ -13,5 +15,5 @@ pub fn first_unseen() -> u32
     ensures own { KeepsItsOwn }
     ensures free { UnseenIsFree }
 {
-    27
+    NEEDED
 }
