@@ -3,7 +3,8 @@ ghost use Rattle.std.specs.Prelude.{◌≡◌, ◌∷◌, Some, codes, slice_ind
 ghost use Rattle.pending.specs.Triggers.{parts_of, trigger_of, plan_of};
 ghost use Rattle.pending.specs.Laws.{IsReadAs, IsWrittenAs};
 
-use crate::trigger::{ABSOLUTE, ON_COMMAND, RELATIVE, Trigger};
+use crate::kind::Kind;
+use crate::trigger::Trigger;
 use std::error::Error;
 use std::fmt;
 
@@ -32,22 +33,22 @@ impl Error for NoPlan {}
 fn trigger_from(kind: u8, parts: [u8; 5]) -> Option<Trigger>
     ensures { result ≡ trigger_of kind (slice_index parts 0) (slice_index parts 1) (slice_index parts 2) (slice_index parts 3) (slice_index parts 4) }
 {
-    let trigger = match (kind, parts) {
-        (ABSOLUTE, [year, month, day, hour, minute]) => Trigger::Absolute {
+    let trigger = match (Kind::try_from(kind).ok()?, parts) {
+        (Kind::Absolute, [year, month, day, hour, minute]) => Trigger::Absolute {
             year,
             month,
             day,
             hour,
             minute,
         },
-        (RELATIVE, [weeks, days, hours, minutes, seconds]) => Trigger::Relative {
+        (Kind::Relative, [weeks, days, hours, minutes, seconds]) => Trigger::Relative {
             weeks,
             days,
             hours,
             minutes,
             seconds,
         },
-        (ON_COMMAND, [0, 0, 0, 0, 0]) => Trigger::OnCommand,
+        (Kind::OnCommand, [0, 0, 0, 0, 0]) => Trigger::OnCommand,
         _ => return None,
     };
     trigger.is_well_formed().then_some(trigger)
@@ -107,7 +108,7 @@ impl From<Plan> for [u8; 6] {
 
     #[tactic(auto, using(crate::proofs::PlanBytes::plan_laws))]
     fn from(plan: Plan) -> [u8; 6] {
-        let first = plan.trigger.kind() + 16 * u8::from(plan.self_read);
+        let first = u8::from(plan.trigger.kind()) + 16 * u8::from(plan.self_read);
         bytes_from(first, plan.trigger)
     }
 }

@@ -1,15 +1,10 @@
 // What a staged table waits for.
 ghost use Rattle.std.specs.Prelude.{◌≡◌, ◌<◌};
+ghost use Rattle.pending.specs.Kinds.{kind_number};
 ghost use Rattle.pending.specs.Triggers.{kind_of, date_named, second_named, is_well_formed, span_of, due_when, due_of, second_agrees, second_of_due};
 
+use crate::kind::Kind;
 use calendar::{DateTime, seconds};
-
-// The numbers of the kinds in bytes. No enum: the kinds are the variants of `Trigger`, and a second one would be read only to choose one.
-pub(crate) const ABSOLUTE: u8 = 0;
-
-pub(crate) const RELATIVE: u8 = 1;
-
-pub(crate) const ON_COMMAND: u8 = 2;
 
 #[derive(Clone, Copy, PartialEq, Eq, Debug)]
 pub enum Trigger {
@@ -77,14 +72,13 @@ impl Trigger {
         }
     }
 
-    // The number that stands for its kind.
-    pub fn kind(&self) -> u8
-        ensures { result ≡ kind_of self.now }
+    pub fn kind(&self) -> Kind
+        ensures { kind_number result ≡ kind_of self.now }
     {
         match self {
-            Trigger::Absolute { .. } => ABSOLUTE,
-            Trigger::Relative { .. } => RELATIVE,
-            Trigger::OnCommand => ON_COMMAND,
+            Trigger::Absolute { .. } => Kind::Absolute,
+            Trigger::Relative { .. } => Kind::Relative,
+            Trigger::OnCommand => Kind::OnCommand,
         }
     }
 
