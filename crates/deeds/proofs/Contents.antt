@@ -1,5 +1,5 @@
 -- Tests of contents, byte by byte, and a table as a write leaves it.
-use Rattle.std.proofs.Common.{◌≡◌, ℕ, ◌+◌, ◌-◌, ◌≤◌, ◌&&◌, cond, List, [], ◌∷◌, length, take, drop, is_some, Err, Result, Bor, refl, ap, ◌∙◌, arith, rules}
+use Rattle.std.proofs.Common.{◌≡◌, ℕ, ◌+◌, ◌-◌, ◌≤◌, ◌&&◌, List, [], ◌∷◌, length, Result, refl, ap, ◌∙◌, arith, rules}
 use Rattle.std.specs.List.{list_all}
 use Rattle.std.proofs.lemmas.List.{places, same_lists}
 use Rattle.access.specs.Ready.{content_of}
@@ -7,17 +7,13 @@ use Rattle.fields.specs.Words.{part}
 use Rattle.fields.specs.Patches.{patch}
 use Rattle.memory.specs.Blocks.{Block}
 use Rattle.refusals.specs.declared.fault.ServiceFault.{ServiceFault}
-use Rattle.refusals.specs.declared.fault.ServiceFault.TheVariants.{BadContent}
-use Rattle.pending.specs.Triggers.{plan_of}
 use Rattle.pending.specs.declared.table.PendingTable.{PendingTable}
 use Rattle.pending.specs.declared.table.PendingTable.TheVariants.{Calendar, Outputs, Override}
 use Rattle.directory.specs.Geometry.{staged_length, current_block}
 use Rattle.model.specs.Tables.{current_table}
-use Rattle.model.specs.Requests.{staging, staged_due, ruled, content_verdict}
-use Rattle.model.specs.Tariffs.{is_tier, all_tiers, is_right}
-use Rattle.directory.specs.declared.entry.TableEntry.{TableEntry}
+use Rattle.model.specs.Requests.{content_verdict}
+use Rattle.model.specs.Tariffs.{is_tier, all_tiers}
 use Rattle.deeds.specs.declared.deed.Deed.{Deed}
-use Rattle.deeds.specs.declared.deed.Deed.TheVariants.{Stage}
 use Rattle.deeds.specs.Deeds.{deed_of}
 
 pub all_are_tiers : (bs : List ℕ) → list_all is_tier bs ≡ all_tiers bs
@@ -39,10 +35,5 @@ left_by_write w from n k new old left bs en ek eo el fits long =
     let span : n - 0 ≡ staged_length w = omega (arith, en) in
     rw (span, el) (patched_front from (staged_length w) new old fits (omega (arith, staged_short w, long)) ∙ ap (λ (x : List ℕ). patch from new (part (staged_length w) 0 x)) (eo ∙ ap (λ (j : ℕ). content_of bs j) ek))
 
-pub staged_deed : (d : Deed) (t : TableEntry) (p : PendingTable) (content : Bor (List ℕ)) → d ≡ Stage t p content → deed_of d ≡ staging t p content.now
-staged_deed d t p content same = rw same refl
-
-pub staged_verdict : (t : TableEntry) (p : PendingTable) (bytes : List ℕ) (clock : ℕ) (bs : List Block) → content_verdict (staging t p bytes) clock bs ≡ cond (is_some (staged_due (plan_of (take 6 bytes)) clock)) (ruled (is_right p (drop 6 bytes))) (Err BadContent)
-staged_verdict t p bytes clock bs = refl
-
-pub ruleset staged = (staged_deed, staged_verdict)
+pub verdict_on_same : (d e : Deed) (clock : ℕ) (bs : List Block) (r : Result (Unit {0}) ServiceFault) → d ≡ e → r ≡ content_verdict (deed_of e) clock bs → r ≡ content_verdict (deed_of d) clock bs
+verdict_on_same d e clock bs r same is = rw same is

@@ -74,9 +74,8 @@ fn check_staging(table: PendingTable, content: &[u8], clock: u32) -> Result<(), 
     check_right(table, &content[6..])
 }
 
-// Whether what is to be written or staged keeps the rules of its table.
-#[tactic(auto, using(crate::proofs::Contents::staged))]
-pub fn check_content<M: BlockMemory>(
+// The proof needs a file for what is staged, which a public function has not: so there are two. Lemmas named on the public one were tried, and did not close it.
+fn check_rules<M: BlockMemory>(
     memory: ReadyRef<'_, M>,
     deed: &Deed,
     clock: u32,
@@ -102,4 +101,17 @@ pub fn check_content<M: BlockMemory>(
         } => check_staging(pending, content, clock),
         Deed::Call { .. } => Ok(()),
     }
+}
+
+// Whether what is to be written or staged keeps the rules of its table.
+pub fn check_content<M: BlockMemory>(
+    memory: ReadyRef<'_, M>,
+    deed: &Deed,
+    clock: u32,
+    work: &mut [u8; CONTENT],
+) -> Result<(), ServiceFault>
+    requires safe { Safe (deed_of deed.now) }
+    ensures { result ≡ content_verdict (deed_of deed.now) clock (M.BlockMemory.blocks memory.entry.memory.now) }
+{
+    check_rules(memory, deed, clock, work)
 }

@@ -19,6 +19,7 @@ fn are_tiers(bytes: &[u8]) -> bool
     bytes.iter().all(|byte| is_tier(*byte))
 }
 
+// Slices here: the contents come as parts of requests and of blocks, and an array would want a conversion that cannot fail.
 // No other bit of byte 0, a weekday, an hour, a minute, and a tier for each hour.
 fn is_right_calendar(table: &[u8]) -> bool
     requires { length table.now ≡ staged_length Calendar }

@@ -39,6 +39,7 @@ impl<M: BlockMemory> Work<M> {
     }
 
     // What waits takes force: the self-read if there is to be one, the bytes, the row, and the event.
+    // The flag is the plan's: with the step in `activate`, that one would need a proof file, which a public function has not.
     fn take_force(&mut self, table: PendingTable, flag: bool)
         requires room { Totals 4260000000 self.old.head }
         ensures after { self.new ≡ after (forced table self.old.clock flag) self.old }
@@ -68,7 +69,7 @@ impl<M: BlockMemory> Work<M> {
         }
     }
 
-    // The same, said by a test of the row.
+    // The same, said by a test of the row, as the plain meter's orders say it: to leave the test to `activate` would want a lemma that says so.
     pub fn activate_waiting(&mut self, table: PendingTable) -> bool
         requires room { Totals 4240000000 self.old.head }
         ensures did { Did (activated_if is_waiting self.old.clock table) self.old result self.new }
@@ -82,6 +83,7 @@ impl<M: BlockMemory> Work<M> {
     }
 
     // The rows that a test chooses take force, in directory order; whether any did.
+    // A clause for each test that is passed: with one for every test each caller would need an answer.
     fn activate_each<F: Fn(Row) -> bool>(&mut self, chooses: F) -> bool
         requires callable { F.IsAlwaysCallable chooses }
         requires room { Totals 4230000000 self.old.head }
