@@ -14,7 +14,10 @@ pub(crate) const CALENDAR: usize = 120;
 pub(crate) const OVERRIDE: usize = 16;
 
 // The first bytes of a block.
-pub(crate) fn start_of<M: BlockMemory, const N: usize>(memory: &ReadyMemory<M>, block: u32) -> [u8; N]
+pub(crate) fn start_of<M: BlockMemory, const N: usize>(
+    memory: &ReadyMemory<M>,
+    block: u32,
+) -> [u8; N]
     requires below { block < needed }
     requires short { N ≤ 510 }
     ensures { result ≡ part N 0 (content_of (M.BlockMemory.blocks memory.now.memory) block) }
