@@ -2,7 +2,6 @@
 use Rattle.std.proofs.Common.{◌≡◌, ℕ, ◌+◌, ◌-◌, ◌≤◌, Bool, true, false, cond, ◌||◌, eqb, ltb, ◌⊎◌, List, [], ◌∷◌, length, Some, None, Ok, Err, Option, Result, sym, refl, ap, inl, inr, arith}
 use Rattle.std.specs.List.{AllByRecursion}
 use Rattle.std.proofs.lemmas.Bool.{ltb-false, or_parts}
-use Rattle.fields.specs.Words.{part}
 use Rattle.numbers.specs.declared.service.Service.{Service}
 use Rattle.numbers.specs.declared.service.Service.TheVariants.{FullRead, PartialRead, FullWrite, PartialWrite}
 use Rattle.refusals.specs.declared.fault.ServiceFault.{ServiceFault}
@@ -21,7 +20,7 @@ use Rattle.model.proofs.Accepting.{then_ok}
 use Rattle.request.specs.declared.part.Part.{Part}
 use Rattle.request.specs.Asks.{Ask, full_read, partial_read, full_write, partial_write, ask_in, table_of, service_of}
 use Rattle.request.specs.Parts.{whole_part, part_verdict}
-use Rattle.tables.specs.Lengths.{shown_length, Shown, Answerable}
+use Rattle.tables.specs.Lengths.{Shown, Answerable}
 
 -- a found entry only starts procedures, or all its bytes are shown
 abbrev Starts : TableEntry → Type 0
