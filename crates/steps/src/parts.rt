@@ -14,14 +14,10 @@ pub(crate) const CALENDAR: usize = 120;
 pub(crate) const OVERRIDE: usize = 16;
 
 // The first bytes of a block.
-<<<<<<< HEAD
-pub(crate) fn start_of<M: BlockMemory, const N: usize>(memory: ReadyRef<'_, M>, block: u32) -> [u8; N]
-=======
 pub(crate) fn start_of<M: BlockMemory, const N: usize>(
-    memory: &ReadyMemory<M>,
+    memory: ReadyRef<'_, M>,
     block: u32,
 ) -> [u8; N]
->>>>>>> 6a2a69f0c6db7cf7a38ec4551835644e41575a9d
     requires below { block < needed }
     requires short { N ≤ 510 }
     ensures { result ≡ part N 0 (content_of (M.BlockMemory.blocks memory.entry.memory.now) block) }
