@@ -34,7 +34,7 @@ pub fn check_blocks<M: BlockMemory>(memory: &M) -> Result<(), MemoryFault>
     }
 }
 
-// The content of a block, into a buffer.
+// The content of a block, into a buffer. That it is one of those blocks stays a clause: they are constants of the directory, and a type for them would be opened at each use.
 #[tactic(auto, using(crate::proofs::Readiness::ready_content))]
 pub fn load<M: BlockMemory>(memory: &M, block: u32, content: &mut [u8; CONTENT])
     requires ready { Ready (M.BlockMemory.blocks memory.now) }

@@ -84,6 +84,7 @@ pub enum AnyAnswer {
 }
 
 // The name of a layer, as bytes too.
+// By hand, as the text of a tail is.
 fn layer_text(layer: Layer) -> &'static [u8]
     ensures { result.now ≡ layer_text layer }
 {

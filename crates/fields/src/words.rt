@@ -5,6 +5,7 @@ ghost use Rattle.fields.specs.Patches.{patch};
 use crate::bytes::{array_at, put_bytes};
 use crate::order::Order;
 
+// The two widths stay apart: one more trait over `u16` and `u32` would say the same at greater length.
 pub fn get16<O: Order>(bytes: &[u8], at: usize) -> u16
     requires { at + 2 ≤ length bytes.now }
     ensures { result ≡ O.word 2 at bytes.now }

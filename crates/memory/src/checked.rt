@@ -34,7 +34,7 @@ fn is_sound(bytes: &[u8], block: u32) -> bool
     get16::<Little>(bytes, at + CONTENT) == checksum(block, chunk_at(bytes, at))
 }
 
-// The lowest block below a number whose stored checksum is not that of its content.
+// The lowest block below a number whose stored checksum is not that of its content. Apart from `lowest_corrupt`, since its proof needs a file.
 fn first_corrupt(bytes: &[u8], below: u32) -> Option<u32>
     ensures { result ≡ lowest_corrupt below (checked_blocks bytes.now) }
 {

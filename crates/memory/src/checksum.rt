@@ -4,7 +4,7 @@ ghost use Rattle.memory.specs.Checksum.{weighted, checksum_of};
 
 use crate::memory::CONTENT;
 
-// The sum of the bytes, each times its place plus one.
+// The sum of the bytes, each times its place plus one: by a rule of the project a loop over the bytes with their index.
 fn weighted_sum(content: &[u8; CONTENT]) -> u32
     ensures sum { result ≡ weighted 0 content.now }
     ensures bound { result ≤ 510 * 130050 }

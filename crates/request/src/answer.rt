@@ -37,7 +37,7 @@ fn zero_front(bytes: &mut [u8], count: usize)
     bytes[0..count].fill(0);
 }
 
-// The check of the bytes that stand in an answer.
+// The check of the bytes that stand in an answer. Its room stays a clause of the three: a struct round the buffer and the count would be made for one call.
 #[tactic(auto, using(crate::proofs::Seals::whole_answer, crate::proofs::Seals::length_part))]
 fn check_of(answer: &[u8], count: u16) -> u8
     requires { count + 4 ≤ length answer.now }
