@@ -52,7 +52,7 @@ impl Request<'_> {
     }
 }
 
-// Each says that the service byte is read: a reader's place is known to its caller, and a definition would only rename `≡ 1`.
+// Each asks for a reader behind the service byte: a definition would only rename `≡ 1`.
 fn full_read(mut fields: Reader<'_>) -> Result<Request<'_>, ServiceFault>
     requires { fields.at ≡ 1 }
     ensures { asked result ≡ full_read_ask fields.entry.bytes.now }
