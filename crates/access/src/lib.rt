@@ -34,34 +34,13 @@ pub fn check_blocks<M: BlockMemory>(memory: &M) -> Result<(), MemoryFault>
     }
 }
 
-// The content of a block, into a buffer. That it is one of those blocks stays a clause: they are constants of the directory, and a type for them would be opened at each use.
-#[tactic(auto, using(crate::proofs::Readiness::ready_content))]
-pub fn load<M: BlockMemory>(memory: &M, block: u32, content: &mut [u8; CONTENT])
-    requires ready { Ready (M.BlockMemory.blocks memory.now) }
-    requires below { block < needed }
-    ensures content { content.new ≡ content_of (M.BlockMemory.blocks memory.now) block }
-{
-    let _ = memory.read(block, content);
-}
-
-// A new content for a block. The memory stays ready.
-#[tactic(auto, using(crate::proofs::Readiness::storing))]
-pub fn store<M: BlockMemory>(memory: &mut M, block: u32, content: &[u8; CONTENT])
-    requires ready { Ready (M.BlockMemory.blocks memory.old) }
-    requires below { block < needed }
-    ensures blocks { M.BlockMemory.blocks memory.new ≡ stored (M.BlockMemory.blocks memory.old) block content.now }
-    ensures ready { Ready (M.BlockMemory.blocks memory.new) }
-{
-    let _ = memory.write(block, content);
-}
-
 // A ready memory that is only read.
 pub struct ReadyRef<'a, M: BlockMemory> {
     pub memory: &'a M,
     pub ghost ready: { Ready (M.BlockMemory.blocks memory.now) },
 }
 
-// By hand, since no derive goes over a ghost field.
+// By hand: a derive would ask that the memory itself is Clone and Copy.
 impl<M: BlockMemory> Clone for ReadyRef<'_, M> {
     ghost is_clone = { λ a b. b.memory.now ≡ a.memory.now };
 
@@ -83,12 +62,13 @@ impl<'a, M: BlockMemory> ReadyRef<'a, M> {
         ReadyRef { memory: found }
     }
 
-    // The content of a block, into a buffer.
+    // The content of a block, into a buffer. That it is one of those blocks stays a clause: they are constants of the directory, and a type for them would be opened at each use.
+    #[tactic(auto, using(crate::proofs::Readiness::ready_content))]
     pub fn load(self, block: u32, content: &mut [u8; CONTENT])
         requires { block < needed }
         ensures content { content.new ≡ content_of (M.BlockMemory.blocks self.entry.memory.now) block }
     {
-        load(self.memory, block, content);
+        let _ = self.memory.read(block, content);
     }
 }
 
@@ -140,14 +120,15 @@ impl<M: BlockMemory> ReadyMemory<M> {
         requires { block < needed }
         ensures content { content.new ≡ content_of (M.BlockMemory.blocks self.now.memory) block }
     {
-        load(&self.memory, block, content);
+        self.as_ref().load(block, content);
     }
 
-    // A new content for a block, from a buffer.
+    // A new content for a block.
+    #[tactic(auto, using(crate::proofs::Readiness::storing))]
     pub fn store(&mut self, block: u32, content: &[u8; CONTENT])
         requires { block < needed }
         ensures { M.BlockMemory.blocks self.new.memory ≡ stored (M.BlockMemory.blocks self.old.memory) block content.now }
     {
-        store(&mut self.memory, block, content);
+        let _ = self.memory.write(block, content);
     }
 }

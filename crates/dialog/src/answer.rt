@@ -40,6 +40,7 @@ pub enum Scratch {
     Other,
 }
 
+// By hand, as the text of a tail is.
 impl Scratch {
     fn text(self) -> &'static [u8]
         ensures { result.now ≡ scratch_text self }

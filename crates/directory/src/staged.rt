@@ -1,6 +1,5 @@
 // Where the tables that can be staged lie: the content in force, and the one that waits.
-// One match each, with a contract of its own: the numbers stand in three columns of the directory, whose rows are
-// found by a table's number and not by a table.
+// One match each, with a contract of its own: one function of a column would be asked for a column at each call.
 ghost use Rattle.std.specs.Prelude.{◌≡◌};
 ghost use Rattle.directory.specs.Geometry.{staged_length, current_block, pending_block};
 

@@ -33,7 +33,7 @@ pub fn put8(bytes: &mut [u8], at: usize, value: u8)
     put_bytes(bytes, at, &[value]);
 }
 
-// What `put_bytes` does; apart, since its proof needs a file.
+// What `put_bytes` does; apart, since its proof needs a file: with a lemma named on that one, `replaces` was tried and stays open.
 fn place(bytes: &mut [u8], at: usize, new: &[u8])
     requires { at + length new.now ≤ length bytes.old }
     ensures patched { bytes.new ≡ patch at new.now bytes.old }

@@ -5,8 +5,7 @@ ghost use Rattle.std.specs.Fmt.{decimal};
 use std::error::Error;
 use std::fmt;
 
-// A number that no name of a kind has. One error for the six kinds of this crate.
-// Each `try_from` is written out: it names its own variants, and a macro of ours may not write impls.
+// A number that no name of a kind has. Each `try_from` is written out: it names its own variants, and a macro writes no ghost member, as `try_from_gives`.
 #[derive(Clone, Copy, PartialEq, Eq, Debug)]
 pub struct UnknownNumber(pub u16);
 

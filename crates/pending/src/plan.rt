@@ -1,5 +1,6 @@
 // The six bytes at the front of a staging.
 ghost use Rattle.std.specs.Prelude.{◌≡◌, ◌∷◌, Some, codes, slice_index};
+ghost use Rattle.pending.specs.Kinds.{kind_number};
 ghost use Rattle.pending.specs.Triggers.{parts_of, trigger_of, plan_of};
 ghost use Rattle.pending.specs.Laws.{IsReadAs, IsWrittenAs};
 
@@ -30,10 +31,10 @@ impl fmt::Display for NoPlan {
 impl Error for NoPlan {}
 
 // The trigger of a kind and five bytes.
-fn trigger_from(kind: u8, parts: [u8; 5]) -> Option<Trigger>
-    ensures { result ≡ trigger_of kind (slice_index parts 0) (slice_index parts 1) (slice_index parts 2) (slice_index parts 3) (slice_index parts 4) }
+fn trigger_from(kind: Kind, parts: [u8; 5]) -> Option<Trigger>
+    ensures { result ≡ trigger_of (kind_number kind) (slice_index parts 0) (slice_index parts 1) (slice_index parts 2) (slice_index parts 3) (slice_index parts 4) }
 {
-    let trigger = match (Kind::try_from(kind).ok()?, parts) {
+    let trigger = match (kind, parts) {
         (Kind::Absolute, [year, month, day, hour, minute]) => Trigger::Absolute {
             year,
             month,
@@ -85,7 +86,8 @@ fn plan_from(bytes: [u8; 6]) -> Option<Plan>
     if first >= 32 {
         return None;
     }
-    let trigger = trigger_from(first % 16, [a, b, c, d, e])?;
+    let kind = Kind::try_from(first % 16).ok()?;
+    let trigger = trigger_from(kind, [a, b, c, d, e])?;
     Some(Plan {
         trigger,
         self_read: first / 16 == 1,

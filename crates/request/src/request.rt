@@ -102,7 +102,7 @@ fn partial_write(mut fields: Reader<'_>) -> Result<Request<'_>, ServiceFault>
     })
 }
 
-// Not in `parse`: that such a request is read right is proved from this equation, which no branch has by itself.
+// Not in `parse`: tried, but that a request is read right follows from this equation, which no branch has by itself.
 fn by_service(bytes: &[u8]) -> Result<Request<'_>, ServiceFault>
     ensures { asked result ≡ ask_in bytes.now }
 {

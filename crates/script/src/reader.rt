@@ -71,19 +71,25 @@ fn read_write(heap: Global, line: &[u8]) -> Result<Command, Complaint>
     Ok(Command::On(ImageCommand::Blocks(BlockCommand::Write(block, bytes))))
 }
 
-// Six numbers of one byte, the parts of a date-time.
+// The parts of a date-time in turn, each by its name: a loop, which was tried, counts their places in an array by hand.
 fn read_second(line: &[u8]) -> Result<Command, Complaint>
     ensures { Meets said_of result (second_said line.now) }
 {
-    let mut parts = [0; 6];
-    let mut rest = line;
-    for i in 0..6 {
-        let (part, after) = byte(rest)?;
-        parts[i] = part;
-        rest = after;
-    }
+    let (year, rest) = byte(line)?;
+    let (month, rest) = byte(rest)?;
+    let (day, rest) = byte(rest)?;
+    let (hour, rest) = byte(rest)?;
+    let (minute, rest) = byte(rest)?;
+    let (second, rest) = byte(rest)?;
     end(rest)?;
-    Ok(Command::Second(DateTime::from(parts)))
+    Ok(Command::Second(DateTime {
+        year,
+        month,
+        day,
+        hour,
+        minute,
+        second,
+    }))
 }
 
 // The command that a line asks for.

@@ -82,6 +82,7 @@ impl<M: BlockMemory> Work<M> {
         ends
     }
 
+    // Apart from `tick_to`, which sets the clock before it: its proof needs a file, which a public function has not.
     // What a second brings that the clock has come to: rows that are due take force, then the scheduled self-read by the calendar then in force, then the interval record.
     fn pass_second(&mut self) -> bool
         requires room { Totals 4210000000 self.old.head }

@@ -58,7 +58,7 @@ fn add_energy(registers: &mut Registers, tier: Tier, wh: u32)
     }
 }
 
-// Watt-hours for the total and the active tier. The blocks stay.
+// Watt-hours for the total and the active tier. No method of `Work`: the memory is only read, and the clock may be any.
 #[tactic(auto, unfolding(model::specs::Calls::feeding))]
 pub fn feed<M: BlockMemory>(memory: ReadyRef<'_, M>, head: &mut Head, clock: u32, wh: u32)
     ensures head { head.new ≡ (feeding clock wh (working head.old (M.BlockMemory.blocks memory.entry.memory.now))).head }

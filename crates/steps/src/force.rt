@@ -11,6 +11,7 @@ use crate::work::Work;
 use directory::staged::{current_block, pending_block, staged_length};
 use head::head::Activation;
 use memory::memory::BlockMemory;
+use pending::plan::Plan;
 use pending::row::Row;
 use pending::table::PendingTable;
 use records::event::Event;
@@ -39,13 +40,12 @@ impl<M: BlockMemory> Work<M> {
     }
 
     // What waits takes force: the self-read if there is to be one, the bytes, the row, and the event.
-    // The flag is the plan's: with the step in `activate`, that one would need a proof file, which a public function has not.
-    fn take_force(&mut self, table: PendingTable, flag: bool)
+    fn take_force(&mut self, table: PendingTable, plan: Plan)
         requires room { Totals 4260000000 self.old.head }
-        ensures after { self.new ≡ after (forced table self.old.clock flag) self.old }
+        ensures after { self.new ≡ after (forced table self.old.clock plan.self_read) self.old }
         ensures counts { Grows 3 self.old.head self.new.head }
     {
-        if flag {
+        if plan.self_read {
             self.take_self_read();
         }
         self.bring_in(table);
@@ -63,7 +63,7 @@ impl<M: BlockMemory> Work<M> {
         match self.head.rows[table.index()] {
             Row::Empty => false,
             Row::Waiting { plan, .. } => {
-                self.take_force(table, plan.self_read);
+                self.take_force(table, plan);
                 true
             }
         }

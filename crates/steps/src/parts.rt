@@ -5,7 +5,7 @@ ghost use Rattle.fields.specs.Patches.{patch};
 ghost use Rattle.fields.specs.Words.{part};
 
 use access::{ReadyMemory, ReadyRef};
-use fields::bytes::{array_at, put_bytes};
+use fields::bytes::put_bytes;
 use memory::memory::{BlockMemory, CONTENT};
 
 // The bytes of the calendar, the longest of the staged tables, and of the override.
@@ -13,7 +13,7 @@ pub(crate) const CALENDAR: usize = 120;
 
 pub(crate) const OVERRIDE: usize = 16;
 
-// The first bytes of a block.
+// The first bytes of a block, as an array.
 pub(crate) fn start_of<M: BlockMemory, const N: usize>(
     memory: ReadyRef<'_, M>,
     block: u32,
@@ -22,9 +22,9 @@ pub(crate) fn start_of<M: BlockMemory, const N: usize>(
     requires short { N ≤ 510 }
     ensures { result ≡ part N 0 (content_of (M.BlockMemory.blocks memory.entry.memory.now) block) }
 {
-    let mut content = [0u8; CONTENT];
-    memory.load(block, &mut content);
-    array_at(&content, 0)
+    let mut start = [0; N];
+    load_start(memory, block, &mut start);
+    start
 }
 
 // The same, as many as `out` has room for.

@@ -13,15 +13,12 @@ use head::head::{Activation, Head};
 use pending::row::Row;
 use pending::table::PendingTable;
 
-// The date-time of a second of the calendar.
+// The date-time of a second of the calendar: `Readout` keeps that of its own, so that no type for such a second is wanted.
 pub(crate) fn date_bytes(second: u32) -> [u8; 6]
     requires { second < seconds_in_all }
     ensures { result ≡ bytes_of (date_of second) }
 {
-    match from_second(second) {
-        Some(date) => date.into(),
-        None => [0; 6],
-    }
+    from_second(second).unwrap().into()
 }
 
 fn activation_date(activation: Activation) -> [u8; 6]
