@@ -58,6 +58,7 @@ impl<M: BlockMemory> Work<M> {
     pub fn activate(&mut self, table: PendingTable) -> bool
         requires room { Totals 4250000000 self.old.head }
         ensures did { Did (activated self.old.clock table) self.old result self.new }
+        ensures waiting { Did (activated_if is_waiting self.old.clock table) self.old result self.new }
         ensures counts { Grows 3 self.old.head self.new.head }
     {
         match self.head.rows[table.index()] {
@@ -66,19 +67,6 @@ impl<M: BlockMemory> Work<M> {
                 self.take_force(table, plan);
                 true
             }
-        }
-    }
-
-    // The same, said by a test of the row, as the plain meter's orders say it: to leave the test to `activate` would want a lemma that says so.
-    pub fn activate_waiting(&mut self, table: PendingTable) -> bool
-        requires room { Totals 4240000000 self.old.head }
-        ensures did { Did (activated_if is_waiting self.old.clock table) self.old result self.new }
-        ensures counts { Grows 3 self.old.head self.new.head }
-    {
-        if self.head.rows[table.index()].is_waiting() {
-            self.activate(table)
-        } else {
-            false
         }
     }
 
