@@ -6,13 +6,6 @@ use Rattle.model.specs.States.{row_of}
 use Rattle.tables.proofs.Rows.{length_activation_date, length_row_shown, one_row_put, status_written}
 use Rattle.tables.proofs.views.pending_status.Goals as goal
 
-pub loop-table-preserved : goal.loop-table-preserved
-loop-table-preserved c =
-    let h = c.args.head.now in
-    let i = c.loop-table.table-index in
-    let row : get_or h.rows c.index-place.result Empty ≡ row_of (get_or all_tables i Calendar) h = rw c.index-place.ensures.value refl in
-    one_row_put i h _ c.put8.new.bytes _ _ _ _ _ refl (omega arith) c.index-place.ensures.value row c.row_shown.ensures c.loop-table.invariant c.put_bytes-in-loop-table.ensures.patched
-
 pub returns : goal.returns
 returns c =
     let all : c.loop-table.table-index ≡ 3 = omega arith in
