@@ -72,7 +72,8 @@ impl<'a, M: BlockMemory> ReadyRef<'a, M> {
     }
 }
 
-// A memory that was found ready, and is from then on.
+// A memory that was found ready, and is from then on. One that is lent is a memory too, and each function that writes leaves the loan (`loan`): so whoever lent it knows what it holds afterwards.
+#[derive(Drop)]
 pub struct ReadyMemory<M: BlockMemory> {
     pub memory: M,
     pub ghost ready: { Ready (M.BlockMemory.blocks memory) },
@@ -127,7 +128,8 @@ impl<M: BlockMemory> ReadyMemory<M> {
     #[tactic(auto, using(crate::proofs::Readiness::storing))]
     pub fn store(&mut self, block: u32, content: &[u8; CONTENT])
         requires { block < needed }
-        ensures { M.BlockMemory.blocks self.new.memory ≡ stored (M.BlockMemory.blocks self.old.memory) block content.now }
+        ensures blocks { M.BlockMemory.blocks self.new.memory ≡ stored (M.BlockMemory.blocks self.old.memory) block content.now }
+        ensures loan { M.BlockMemory.loan self.new.memory ≡ M.BlockMemory.loan self.old.memory }
     {
         let _ = self.memory.write(block, content);
     }

@@ -81,6 +81,10 @@ impl<K: Run> BlockMemory for Image<'_, K> {
 
     ghost rewrites = { λ before n content after. (after.bytes.now ≡ cond (nat_lt n (block_count K.WIDTH before.bytes.now)) (patch (n * K.WIDTH) (K.run n content) before.bytes.now) before.bytes.now) × (after.bytes.ghost_name ≡ before.bytes.ghost_name) };
 
+    ghost loan = { λ m. m.bytes.ghost_name };
+
+    ghost counted = { λ m n. n ≡ block_count K.WIDTH m.bytes.now };
+
     fn size(&self) -> u32
         ensures size { result ≡ length (K.blocks self.now.bytes.now) }
         ensures count { result ≡ block_count K.WIDTH self.now.bytes.now }

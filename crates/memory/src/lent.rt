@@ -11,6 +11,10 @@ impl<M: BlockMemory> BlockMemory for &mut M {
 
     ghost rewrites = { λ before n content after. M.BlockMemory.rewrites before.now n content after.now × (after.ghost_name ≡ before.ghost_name) };
 
+    ghost loan = { λ m. m.ghost_name };
+
+    ghost counted = { λ m n. M.BlockMemory.counted m.now n };
+
     fn size(&self) -> u32 {
         (**self).size()
     }
