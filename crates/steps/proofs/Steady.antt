@@ -98,7 +98,7 @@ going_on f k steady s =
 
 -- one step after another
 pub after_both : (f k : Going → Going) → Steady k → (s : State) → after k (after f s) ≡ after (λ g. k (f g)) s
-after_both f k steady s = ap (λ (g : Going). record { clock = s.clock; head = g.head; blocks = g.blocks }) (sym (going_on f k steady s))
+after_both f k steady s = ap (λ (g : Going). record { clock = s.clock; head = g.head; blocks = g.blocks; loan = s.loan }) (sym (going_on f k steady s))
 
 pub did_both : (f k : Going → Going) → Steady k → {a b c : State} {some some' : Bool} → Did f a some b → Did k b some' c → Did (λ g. k (f g)) a (some || some') c
 did_both f k steady {a} {b} {c} {some} {some'} first second = record {
@@ -115,7 +115,7 @@ forced_on t flag s one two three four =
 -- a table takes force if a test of its row holds, and nothing happens if not
 did_same : (f k : Going → Going) (s : State) {s' : State} {some : Bool} → f (going s) ≡ k (going s) → Did f s some s' → Did k s some s'
 did_same f k s same did = record {
-  state = did.state ∙ ap (λ (g : Going). record { clock = s.clock; head = g.head; blocks = g.blocks }) same;
+  state = did.state ∙ ap (λ (g : Going). record { clock = s.clock; head = g.head; blocks = g.blocks; loan = s.loan }) same;
   any = did.any ∙ ap (λ (g : Going). any_of g.entries) same;
 }
 

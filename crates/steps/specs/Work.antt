@@ -17,22 +17,23 @@ use Rattle.model.specs.Steps.{noted, brought_in, row_spent, read_first}
 abbrev pub working : Head → List Block → Going
 working h bs = record { head = h; blocks = bs; entries = [] }
 
--- The state that a call works on: its clock, what block 0 is to say, and the blocks.
+-- The state that a call works on: its clock, what block 0 is to say, the blocks, and the loan by which the memory is reached, which no step changes.
 pub record State : Type 0 where
   pub clock : ℕ
   pub head : Head
   pub blocks : List Block
+  pub loan : ℕ
 
 abbrev pub going : State → Going
 going s = working s.head s.blocks
 
 -- The state at another clock.
 abbrev pub at_clock : ℕ → State → State
-at_clock clock s = record { clock = clock; head = s.head; blocks = s.blocks }
+at_clock clock s = record { clock = clock; head = s.head; blocks = s.blocks; loan = s.loan }
 
--- The state after a step of the plain meter. The clock stays.
+-- The state after a step of the plain meter. The clock stays, and so does the loan.
 abbrev pub after : (Going → Going) → State → State
-after step s = record { clock = s.clock; head = (step (going s)).head; blocks = (step (going s)).blocks }
+after step s = record { clock = s.clock; head = (step (going s)).head; blocks = (step (going s)).blocks; loan = s.loan }
 
 -- The state after a record has gone into the next slot of its log and was counted.
 abbrev pub entered_in : LogName → List ℕ → State → State
@@ -40,6 +41,7 @@ entered_in name bytes s = record {
   clock = s.clock;
   head = set_log name (appended (log_place name) (log_of name s.head)) s.head;
   blocks = put_slot (log_place name) ((log_of name s.head).total % (log_place name).size) bytes s.blocks;
+  loan = s.loan;
 }
 
 -- No log has recorded more than a limit.

@@ -24,7 +24,8 @@ pub fn load_head<M: BlockMemory>(memory: ReadyRef<'_, M>) -> Head
 
 // Block 0 says so from now on.
 pub fn store_head<M: BlockMemory>(memory: &mut ReadyMemory<M>, head: &Head)
-    ensures { M.BlockMemory.blocks memory.new.memory ≡ stored (M.BlockMemory.blocks memory.old.memory) 0 (encode_head head.now) }
+    ensures blocks { M.BlockMemory.blocks memory.new.memory ≡ stored (M.BlockMemory.blocks memory.old.memory) 0 (encode_head head.now) }
+    ensures loan { M.BlockMemory.loan memory.new.memory ≡ M.BlockMemory.loan memory.old.memory }
 {
     let mut content = [0u8; CONTENT];
     encode(head, &mut content);

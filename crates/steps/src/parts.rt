@@ -42,7 +42,8 @@ pub(crate) fn load_start<M: BlockMemory>(memory: ReadyRef<'_, M>, block: u32, ou
 pub(crate) fn store_start<M: BlockMemory>(memory: &mut ReadyMemory<M>, block: u32, new: &[u8])
     requires below { block < needed }
     requires short { length new.now ≤ 510 }
-    ensures { M.BlockMemory.blocks memory.new.memory ≡ stored (M.BlockMemory.blocks memory.old.memory) block (patch 0 new.now (content_of (M.BlockMemory.blocks memory.old.memory) block)) }
+    ensures blocks { M.BlockMemory.blocks memory.new.memory ≡ stored (M.BlockMemory.blocks memory.old.memory) block (patch 0 new.now (content_of (M.BlockMemory.blocks memory.old.memory) block)) }
+    ensures loan { M.BlockMemory.loan memory.new.memory ≡ M.BlockMemory.loan memory.old.memory }
 {
     let mut content = [0u8; CONTENT];
     memory.load(block, &mut content);
