@@ -134,3 +134,13 @@ impl<M: BlockMemory> ReadyMemory<M> {
         let _ = self.memory.write(block, content);
     }
 }
+
+// A new content for a block of a memory that is lent. It stays ready, and whoever lent it knows what it holds.
+pub fn store<M: BlockMemory>(memory: &mut M, block: u32, content: &[u8; CONTENT])
+    requires ready { Ready (M.BlockMemory.blocks memory.old) }
+    requires below { block < needed }
+    ensures blocks { M.BlockMemory.blocks memory.new ≡ stored (M.BlockMemory.blocks memory.old) block content.now }
+    ensures ready { Ready (M.BlockMemory.blocks memory.new) }
+{
+    ReadyMemory::new(memory).store(block, content);
+}

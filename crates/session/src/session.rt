@@ -6,7 +6,7 @@ use crate::held::HeldImage;
 
 #[derive(Drop)]
 pub struct Session {
-    pub(crate) image: Option<HeldImage>,
+    pub image: Option<HeldImage>,
 }
 
 impl Session {
