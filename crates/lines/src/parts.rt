@@ -1,5 +1,6 @@
 // The parts of a line: each function takes what is left of it, and gives a part and the rest.
 ghost use Rattle.std.specs.Prelude.{◌≡◌, ◌≤◌, IfOk, vec_items};
+ghost use Rattle.std.specs.Str.{bytes_eq};
 ghost use Rattle.lines.specs.Parts.{rested, Meets, word_said, number_said, end_said, last_number_said, bytes_said};
 
 use crate::complaint::Complaint;
@@ -52,4 +53,11 @@ pub fn bytes(heap: Global, line: &[u8]) -> Result<Vec<u8>, Complaint>
     ensures { Meets vec_items result (bytes_said line.now) }
 {
     Ok(read_hex(heap, line)?)
+}
+
+// Whether a word is a name.
+pub fn is_word(word: &[u8], name: &[u8]) -> bool
+    ensures { result ≡ bytes_eq word.now name.now }
+{
+    word == name
 }

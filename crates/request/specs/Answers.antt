@@ -1,5 +1,5 @@
 -- The bytes of an answer, and what a service leaves in its buffers.
-use Rattle.std.specs.Prelude.{ℕ, ◌-◌, ◌%◌, cond, List, [], ◌∷◌, ◌++◌, length, replicate, Some, None, Ok, Err, sum, Option, Result, nat_lt}
+use Rattle.std.specs.Prelude.{◌≡◌, ℕ, ◌-◌, ◌%◌, cond, List, [], ◌∷◌, ◌++◌, length, replicate, Some, None, Ok, Err, sum, Option, Result, nat_lt}
 use Rattle.fields.specs.Words.{be_bytes}
 use Rattle.fields.specs.Patches.{overlay}
 use Rattle.numbers.specs.declared.service.AnswerCode.{AnswerCode}
@@ -35,6 +35,10 @@ zeroed count old = overlay (replicate count 0) old
 
 abbrev pub wiped : List ℕ → List ℕ
 wiped old = zeroed 510 old
+
+-- A scratch is wiped to the same, whatever was written over the part that is wiped.
+abbrev pub WipesAlike : Type 0
+WipesAlike = (work scratch : List ℕ) → length work ≡ 510 → wiped (overlay work scratch) ≡ wiped scratch
 
 -- The answer has room for 1028 bytes and the scratch for 510; of two short buffers the answer is told.
 abbrev pub buffer_verdict : ℕ → ℕ → Result (Unit {0}) ServiceFault

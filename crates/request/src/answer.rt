@@ -5,7 +5,7 @@ ghost use Rattle.fields.specs.Patches.{overlay};
 ghost use Rattle.numbers.specs.Names.{code_number};
 ghost use Rattle.refusals.specs.declared.fault.ServiceFault.TheVariants.{ShortBuffer};
 ghost use Rattle.request.specs.Asks.{whole};
-ghost use Rattle.request.specs.Answers.{check_byte, answer_bytes, refused, zeroed, wiped, buffer_verdict};
+ghost use Rattle.request.specs.Answers.{check_byte, answer_bytes, refused, zeroed, wiped, WipesAlike, buffer_verdict};
 
 use crate::sums::byte_sum;
 use fields::bytes::{put_bytes, put8};
@@ -86,10 +86,12 @@ pub fn put_refusal(answer: &mut [u8], fault: ServiceFault)
     }
 }
 
-// Zeros in the first 510 bytes.
+// Zeros in the first 510 bytes, whatever was written there.
+#[tactic(auto, using(crate::proofs::Wipes::wiped_overlay))]
 pub fn wipe(scratch: &mut [u8])
     requires { 510 ≤ length scratch.old }
-    ensures { scratch.new ≡ wiped scratch.old }
+    ensures zeros { scratch.new ≡ wiped scratch.old }
+    ensures alike { WipesAlike }
 {
     zero_front(scratch, SCRATCH);
 }
