@@ -4,6 +4,7 @@
 ghost use Rattle.std.specs.Prelude.{◌≡◌, Some};
 ghost use Rattle.worked.specs.Examples.{Worked};
 ghost use Rattle.worked.specs.Life.{WorkedLife};
+ghost use Rattle.memory.specs.Images.{block_count};
 
 use calendar::DateTime;
 
@@ -28,6 +29,7 @@ pub fn leap_day() -> Option<u32>
 #[cfg(test)]
 mod tests {
     use calendar::{from_second, second_and_back};
+    use memory::bare::BareImage;
     use memory::checked::CheckedImage;
     use memory::fault::MemoryFault;
     use memory::memory::BlockMemory;
@@ -59,5 +61,18 @@ mod tests {
         let mut image = CheckedImage::new(&mut bytes);
         assert_eq!(rt; image.write(0, &content), Ok(()));
         assert!(rt; bytes[509] == 255 && bytes[510] == 0x12 && bytes[511] == 0xFC);
+    }
+
+    // An image that is lent says of its size what the image does.
+    fn count_lent(image: &mut BareImage<'_>) -> u32
+        ensures { result ≡ block_count 510 image.old.bytes.now }
+    {
+        image.size()
+    }
+
+    #[test]
+    fn lent_images_are_counted(rt: HostRuntime) {
+        let mut bytes = [0u8; 1021];
+        assert_eq!(rt; count_lent(&mut BareImage::new(&mut bytes)), 2);
     }
 }
